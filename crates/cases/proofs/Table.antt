@@ -1,0 +1,11 @@
+-- The whole table holds: the definitions give what document 01 says, case by case. Assumes nothing.
+use mathlib.Core.Path.{_≡_, refl}
+use native.Mathlib.Omega.{arith}
+use Rattle.cases.proofs.CaseE.{holds-E}
+use Rattle.cases.proofs.Rules.{rules}
+use Rattle.cases.specs.Cases.{Hold, given, head, lists, frame, pair, requestA, requestB, requestE, table, afterA, afterB, accepted, refused, runG, cases}
+
+-- A to D and F to J are computed; E holds for every T.
+pub cases-hold : Hold cases
+unfolding rules given head lists frame pair requestA requestB requestE table afterA afterB accepted refused runG cases
+cases-hold = (refl, (refl, (refl, (refl, (refl, (refl, (refl, (refl, (refl, (refl, (refl, (refl, (refl, (refl, (refl, (refl, (refl, holds-E 65 (omega arith))))))))))))))))))

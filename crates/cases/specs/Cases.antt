@@ -1,0 +1,180 @@
+-- Document 01, "Bench cases": the lettered ones, as one table of what is asked and what the definitions give.
+use lib.Dec.{eqb, ltb, leb}
+use lib.ListN.{length, replicate}
+use mathlib.Core.Bool.{false, cond, _||_, _&&_}
+use mathlib.Core.List.{List, [], _∷_, _++_}
+use mathlib.Core.Option.{Option, none, some}
+use mathlib.Core.Path.{_≡_}
+use Prim.Native.Nat.{ℕ, zero, suc, _+_}
+use Rattle.change.specs.Change.{Answer, answer}
+use Rattle.change.specs.Stages.{startEntries}
+use Rattle.frames.specs.Program.{programLines}
+use Rattle.records.specs.Answer.{field}
+use Rattle.records.specs.Request.{readRequest}
+use Rattle.slots.specs.Clocks.{coreSlot}
+use Rattle.slots.specs.Limits.{AREA, IDS, LONGEST}
+use Rattle.slots.specs.Shortfall.{roomOf, lastOffsetOf}
+use Rattle.slots.specs.Slots.{Run, shortfall}
+use Rattle.timetable.specs.declared.Entry.{Entry}
+use Rattle.timetable.specs.declared.Timetable.{Timetable}
+use Rattle.timetable.specs.Timetable.{noEntry, emptyTimetable, entryOf}
+
+-- What a case asks.
+pub data Asked : Type 0 where
+  -- the answer of a timetable to a request, with an area of 231 bytes
+  change : Timetable → List ℕ → Asked
+  -- the shortfalls of ids 0, 1 and 2 at the request slot
+  starts : Timetable → List ℕ → Asked
+  -- the shortfall of id 0 at a slot of a run
+  walk : Run → ℕ → Asked
+  -- the room and the last offset of a period, a bound and a shortfall
+  rooms : ℕ → ℕ → ℕ → Asked
+  -- what the program prints for its input
+  prints : List ℕ → Asked
+
+-- What the definitions give for it.
+pub data Given : Type 0 where
+  answered : Answer → Given
+  figures : List ℕ → Given
+
+-- A case: what is asked, and what document 01 says comes of it.
+pub record Case : Type 0 where
+  pub asked : Asked
+  pub says : Given
+
+-- What the definitions give for what a case asks.
+unfoldable pub given : Asked → Given
+given (change t s) = answered (answer t s AREA)
+given (starts t s) =
+    let r = readRequest s .request in
+    let es = startEntries t (r .slot) (r .asks) in
+    figures (entryOf es 0 .shortfall ∷ entryOf es 1 .shortfall ∷ entryOf es 2 .shortfall ∷ [])
+given (walk run t) = figures (shortfall run 0 t ∷ [])
+given (rooms period bound s) = figures (roomOf period bound s ∷ lastOffsetOf period bound s ∷ [])
+given (prints input) = figures (programLines input)
+
+-- ---- the parts of requests and timetables
+
+-- The fields of a request slot below 256 and of T.
+unfoldable pub head : ℕ → ℕ → List ℕ
+head slot limit = field 1 (0 ∷ 0 ∷ 0 ∷ 0 ∷ 0 ∷ 0 ∷ 0 ∷ slot ∷ []) ++ field 2 (limit ∷ [])
+
+-- The field that lists an id with k and R.
+unfoldable pub lists : ℕ → ℕ → ℕ → List ℕ
+lists id k bound = field 3 (id ∷ k ∷ bound ∷ [])
+
+-- A frame.
+unfoldable pub frame : List ℕ → List ℕ
+frame s = field 0x40 s
+
+-- A listed entry.
+abbrev pub entry : ℕ → ℕ → ℕ → ℕ → Entry
+entry period offset bound s = record { period = period; offset = offset; bound = bound; shortfall = s }
+
+-- Ids 0 and 1 with k 2, R 1.
+unfoldable pub pair : List ℕ
+pair = lists 0 2 1 ++ lists 1 2 1
+
+-- Case A's request, B's with a slot and a T, and E's listing with a slot and a T.
+unfoldable pub requestA : List ℕ
+requestA = head 0 0 ++ pair
+
+unfoldable pub requestB : ℕ → ℕ → List ℕ
+requestB slot limit = head slot limit ++ pair ++ lists 2 1 2
+
+unfoldable pub requestE : ℕ → ℕ → List ℕ
+requestE slot limit = head slot limit ++ pair ++ lists 2 1 1
+
+-- A timetable with one transition slot at most.
+unfoldable pub table : ℕ → ℕ → ℕ → List Entry → ℕ → Timetable
+table slot size owner es unlisted = record {
+  request = coreSlot slot;
+  length = size;
+  owners = owner ∷ replicate 63 0;
+  base = coreSlot (slot + size);
+  entries = es ++ replicate unlisted noEntry;
+}
+
+-- A's timetable: offsets 3 and 2.
+unfoldable pub afterA : Timetable
+afterA = table 0 0 0 (entry 4 3 1 0 ∷ entry 4 2 1 0 ∷ []) 30
+
+-- B's: slot 6 goes to id 1, base 7, offsets 0, 2, 1.
+unfoldable pub afterB : Timetable
+afterB = table 6 1 1 (entry 4 0 1 192 ∷ entry 4 2 1 0 ∷ entry 2 1 2 128 ∷ []) 29
+
+-- An acceptance and a refusal.
+unfoldable pub accepted : ℕ → Timetable → List ℕ → Given
+accepted tries t bytes = answered (record { number = 0; place = 0; tries = tries; timetable = t; bytes = bytes })
+
+unfoldable pub refused : ℕ → ℕ → ℕ → Timetable → Given
+refused number place tries t = answered (record { number = number; place = place; tries = tries; timetable = t; bytes = [] })
+
+abbrev pub case : Asked → Given → Case
+case asked says = record { asked = asked; says = says }
+
+-- G's run: weight 64 in slots 0 to 3, then 256; own slots 0, 4, 5, 6.
+unfoldable pub runG : Run
+runG t = record {
+  owner = cond (eqb t 0 || (leb 4 t && leb t 6)) (some 0) none;
+  weight = λ i. cond (ltb t 4) 64 256;
+  bound = λ i. 2;
+  newly = λ i. false;
+}
+
+-- E's tries: 1 at T 0, 2 at T 1, 3 from T 2 on.
+unfoldable pub triesE : ℕ → ℕ
+triesE zero = 1
+triesE (suc zero) = 2
+triesE (suc (suc limit)) = 3
+
+-- E for the Ts below n: refused 9.
+unfoldable pub casesE : ℕ → List Case
+casesE zero = []
+casesE (suc limit) = case (change afterB (requestE 9 limit)) (refused 9 0 (triesE limit) afterB) ∷ casesE limit
+
+-- Each case of a list holds: the definitions give what document 01 says.
+abbrev pub Hold : List Case → Type 0
+Hold [] = Unit {0}
+Hold (c ∷ cs) = (given (c .asked) ≡ c .says) × Hold cs
+
+-- ---- the table
+
+unfoldable pub cases : List Case
+cases =
+    -- A: offsets 3 and 2
+    case (change emptyTimetable requestA)
+    (accepted 1 afterA (0x10 ∷ 0 ∷ 1 ∷ 0 ∷ 0x11 ∷ 0 ∷ 0 ∷ 0x12 ∷ 0 ∷ 2 ∷ 0 ∷ 3 ∷ 0x12 ∷ 0 ∷ 2 ∷ 1 ∷ 2 ∷ []))
+    -- B: shortfalls 128, 192, 0; length 0 is passed over; the answer's bytes
+    ∷ case (starts afterA (requestB 6 1)) (figures (128 ∷ 192 ∷ 0 ∷ []))
+    ∷ case (change afterA (requestB 6 1))
+    (accepted 2 afterB
+    (0x10 ∷ 0 ∷ 1 ∷ 1 ∷ 0x11 ∷ 0 ∷ 1 ∷ 1 ∷ 0x12 ∷ 0 ∷ 2 ∷ 0 ∷ 0 ∷ 0x12 ∷ 0 ∷ 2 ∷ 1 ∷ 2 ∷ 0x12 ∷ 0 ∷ 2 ∷ 2 ∷ 1 ∷ []))
+    -- C: B with T 0
+    ∷ case (change afterA (requestB 6 0)) (refused 9 0 1 afterA)
+    -- D: the shortfall of id 2 is 256
+    ∷ case (starts afterB (requestE 8 1)) (figures (0 ∷ 64 ∷ 256 ∷ []))
+    ∷ case (change afterB (requestE 8 1)) (refused 8 2 0 afterB)
+    -- F: slot 6 is too early, slot 7 is not
+    ∷ case (change afterB (requestB 6 1)) (refused 6 0 0 afterB)
+    ∷ case (change afterB (requestB 7 1))
+    (accepted 1 (table 7 0 0 (entry 4 0 1 192 ∷ entry 4 2 1 0 ∷ entry 2 1 2 128 ∷ []) 29)
+    (0x10 ∷ 0 ∷ 1 ∷ 0 ∷ 0x11 ∷ 0 ∷ 0 ∷ 0x12 ∷ 0 ∷ 2 ∷ 0 ∷ 0 ∷ 0x12 ∷ 0 ∷ 2 ∷ 1 ∷ 2 ∷ 0x12 ∷ 0 ∷ 2 ∷ 2 ∷ 1 ∷ []))
+    -- G: 001's figure 7
+    ∷ case (walk runG 8) (figures (448 ∷ []))
+    -- H: period 4, R 1 at shortfalls 0, 128 and 192; period 2, R 2 at 0
+    ∷ case (rooms 4 1 0) (figures (3 ∷ 3 ∷ []))
+    ∷ case (rooms 4 1 128) (figures (1 ∷ 1 ∷ []))
+    ∷ case (rooms 4 1 192) (figures (0 ∷ 0 ∷ []))
+    ∷ case (rooms 2 2 0) (figures (3 ∷ 1 ∷ []))
+    -- I: the empty listing
+    ∷ case (change emptyTimetable (head 0 0)) (accepted 1 emptyTimetable (0x10 ∷ 0 ∷ 1 ∷ 0 ∷ 0x11 ∷ 0 ∷ 0 ∷ []))
+    -- J: period 1 with R 1 alone, and with a later id of period 256 too
+    ∷ case (change emptyTimetable (head 0 0 ++ lists 5 0 1))
+    (accepted 1 (table 0 0 0 (replicate 5 noEntry ++ (entry 1 0 1 0 ∷ [])) 26) (0x10 ∷ 0 ∷ 1 ∷ 0 ∷ 0x11 ∷ 0 ∷ 0 ∷ 0x12 ∷ 0 ∷ 2 ∷ 5 ∷ 0 ∷ []))
+    ∷ case (change emptyTimetable (head 0 0 ++ lists 5 0 1 ++ lists 9 8 1)) (refused 7 9 0 emptyTimetable)
+    -- the program's lines for A and B
+    ∷ case (prints (frame requestA ++ frame (requestB 6 1)))
+    (figures (49 ∷ 32 ∷ 48 ∷ 32 ∷ 48 ∷ 32 ∷ 49 ∷ 32 ∷ 48 ∷ 10 ∷ 50 ∷ 32 ∷ 48 ∷ 32 ∷ 48 ∷ 32 ∷ 50 ∷ 32 ∷ 49 ∷ 10 ∷ []))
+    -- E: every T from 0 to 64
+    ∷ casesE (suc LONGEST)

@@ -1,0 +1,1 @@
+// The bench cases A to J of document 01.

@@ -1,0 +1,108 @@
+-- Document 01, "The change" and "What each number says": the whole outcome of a request.
+use lib.ListN.{drop, length, replicate}
+use mathlib.Core.List.{List, [], _++_}
+use mathlib.Core.Option.{Option, none, some}
+use Prim.Native.Nat.{ℕ, _+_}
+use Rattle.change.specs.declared.Outcome.{Outcome}
+use Rattle.change.specs.Stages.{startEntries, refusalBefore}
+use Rattle.records.specs.Answer.{answerRecord}
+use Rattle.records.specs.declared.ReadRequest.{ReadRequest}
+use Rattle.records.specs.declared.Refusal.{Refusal}
+use Rattle.records.specs.declared.Request.{Request}
+use Rattle.records.specs.Numbers.{ACCEPTED, NO-SCHEDULE}
+use Rattle.records.specs.Request.{readRequest}
+use Rattle.slots.specs.Clocks.{coreSlot}
+use Rattle.slots.specs.Limits.{LONGEST}
+use Rattle.timetable.specs.declared.Timetable.{Timetable}
+use Rattle.transition.specs.declared.Ending.{Ending}
+use Rattle.transition.specs.declared.Ending.the-variants.{Found, Missed, Exhausted}
+use Rattle.transition.specs.declared.Plan.{Plan}
+use Rattle.transition.specs.declared.Searched.{Searched}
+use Rattle.transition.specs.Transition.{searchFrom}
+
+-- What a request gets, with the bytes of its answer record.
+pub record Answer : Type 0 where
+  pub number : ℕ
+  pub place : ℕ
+  pub tries : ℕ
+  pub timetable : Timetable
+  pub bytes : List ℕ
+
+-- The number of an ending: accepted, or no length up to T gives a schedule.
+unfoldable pub numberOf : Ending → ℕ
+numberOf (Found n) = ACCEPTED
+numberOf (Missed n) = NO-SCHEDULE
+numberOf (Exhausted n) = NO-SCHEDULE
+
+-- The place of an ending.
+unfoldable pub placeOf : Ending → ℕ
+placeOf (Found n) = 0
+placeOf (Missed n) = 0
+placeOf (Exhausted n) = 0
+
+-- The new timetable: the request slot, the transition, and its base, request slot + length.
+unfoldable pub newTimetable : Request → ℕ → Plan → Timetable
+newTimetable r n plan = record {
+  request = r .slot;
+  length = n;
+  owners = plan .owners;
+  base = coreSlot (r .slot .0 + n);
+  entries = plan .entries;
+}
+
+-- The timetable after an ending: the new one, or the one as given.
+unfoldable pub timetableOf : Timetable → Request → Plan → Ending → Timetable
+timetableOf t r plan (Found n) = newTimetable r n plan
+timetableOf t r plan (Missed n) = t
+timetableOf t r plan (Exhausted n) = t
+
+-- The answer record of an ending; a refusal has none.
+unfoldable pub bytesOf : Plan → Ending → List ℕ
+bytesOf plan (Found n) = answerRecord n (plan .owners) (plan .entries)
+bytesOf plan (Missed n) = []
+bytesOf plan (Exhausted n) = []
+
+-- The plan of length 0: no transition slot, and the shortfalls at the request slot.
+unfoldable pub startPlan : Timetable → Request → Plan
+startPlan t r = record { owners = replicate LONGEST 0; entries = startEntries t (r .slot) (r .asks) }
+
+-- The search of a request that passed the stages before: lengths 0 to T.
+unfoldable pub searchOf : Timetable → Request → Searched
+searchOf t r = searchFrom (r .limit) 0 (startPlan t r)
+
+-- The answer of a search.
+unfoldable pub answerOf : Timetable → Request → Searched → Answer
+answerOf t r s = record {
+  number = numberOf (s .ending);
+  place = placeOf (s .ending);
+  tries = s .tries;
+  timetable = timetableOf t r (s .plan) (s .ending);
+  bytes = bytesOf (s .plan) (s .ending);
+}
+
+-- A refusal before the search returns its number and place, 0 tries, no bytes and the timetable as given.
+unfoldable pub refuse : Timetable → Refusal → Answer
+refuse t r = record { number = r .number; place = r .place; tries = 0; timetable = t; bytes = [] }
+
+-- The answer to a request, as it was read, with an answer area of a given size: the stages before, then the search.
+unfoldable pub answerTo : Timetable → ReadRequest → ℕ → Answer
+answerTo t read area =
+    elim (refusalBefore t read area) [ none ↦ answerOf t (read .request) (searchOf t (read .request)) | some r ↦ refuse t r ]
+
+-- The answer to the bytes s of a request.
+unfoldable pub answer : Timetable → List ℕ → ℕ → Answer
+answer t s area = answerTo t (readRequest s) area
+
+-- The outcome: the answer, with the number of bytes written.
+unfoldable pub outcome : Timetable → List ℕ → List ℕ → Outcome
+outcome t s area = record {
+  number = answer t s (length area) .number;
+  place = answer t s (length area) .place;
+  tries = answer t s (length area) .tries;
+  written = length (answer t s (length area) .bytes);
+  timetable = answer t s (length area) .timetable;
+}
+
+-- The answer area afterwards: the record, and the bytes after it as they were. (A refusal has no record, so no byte changes.)
+unfoldable pub areaAfter : Timetable → List ℕ → List ℕ → List ℕ
+areaAfter t s area = answer t s (length area) .bytes ++ drop (length (answer t s (length area) .bytes)) area

@@ -1,0 +1,4 @@
+pub mod Stages
+pub mod Change
+pub mod Queries
+pub mod Controller

@@ -1,0 +1,1 @@
+// The frames that the program reads and the lines that it prints.

@@ -1,0 +1,1 @@
+// Cyclic placement: rule 4 of document 01.

@@ -1,0 +1,130 @@
+-- Document 01, "Records": reading a request, left to right. Reading knows nothing of the timetable.
+use lib.Dec.{eqb, leb, ltb}
+use lib.ListN.{getD, length, replicate, set}
+use mathlib.Core.Bool.{Bool, true, false, cond, _&&_, _||_}
+use mathlib.Core.List.{List}
+use Prim.Native.Nat.{ℕ, zero, suc, _+_, _*_, _^_}
+use Rattle.records.specs.declared.Ask.{Ask}
+use Rattle.records.specs.declared.Cursor.{Cursor}
+use Rattle.records.specs.declared.LimitField.{LimitField}
+use Rattle.records.specs.declared.LimitField.the-variants.{Value as limit-value, Refused as limit-refused}
+use Rattle.records.specs.declared.Listed.{Listed}
+use Rattle.records.specs.declared.ListedField.{ListedField}
+use Rattle.records.specs.declared.ListedField.the-variants.{Value as listed-value, Refused as listed-refused}
+use Rattle.records.specs.declared.Listing.{Listing}
+use Rattle.records.specs.declared.Reading.{Reading}
+use Rattle.records.specs.declared.Reading.the-variants.{Whole, Refused}
+use Rattle.records.specs.declared.ReadRequest.{ReadRequest}
+use Rattle.records.specs.declared.Refusal.{Refusal}
+use Rattle.records.specs.declared.Request.{Request}
+use Rattle.records.specs.declared.SlotField.{SlotField}
+use Rattle.records.specs.declared.SlotField.the-variants.{Value as slot-value, Refused as slot-refused}
+use Rattle.records.specs.Numbers.{BAD-FIELD, OUT-OF-RANGE, NOT-RISING}
+use Rattle.slots.specs.Clocks.{coreSlot}
+use Rattle.slots.specs.declared.CoreSlot.{CoreSlot}
+use Rattle.slots.specs.Limits.{IDS, LAST-SLOT, LONGEST, LARGEST-K}
+use Rattle.timetable.specs.Sound.{isBound}
+
+-- The number that the n bytes from a place write, big-endian.
+unfoldable pub numberAt : List ℕ → ℕ → ℕ → ℕ
+numberAt s from zero = 0
+numberAt s from (suc n) = 256 * numberAt s from n + getD s (from + n) 0
+
+-- The length that the field at a place states: the two bytes after its tag.
+unfoldable pub lengthAt : List ℕ → ℕ → ℕ
+lengthAt s at = numberAt s (at + 1) 2
+
+-- Byte n of the content of the field at a place.
+unfoldable pub contentAt : List ℕ → ℕ → ℕ → ℕ
+contentAt s at n = getD s (at + 3 + n) 0
+
+-- At the place stands a field of this tag and length, not cut off.
+unfoldable pub isField : List ℕ → ℕ → ℕ → ℕ → Bool
+isField s at tag size =
+    leb (at + 3 + size) (length s) && eqb (getD s at 0) tag && eqb (lengthAt s at) size
+
+-- A refusal: its number, and as its place the place of the field's tag.
+abbrev pub refusal : ℕ → ℕ → Refusal
+refusal number place = record { number = number; place = place }
+
+-- Tag 1, length 8: the request slot, at most 2^48 - 1.
+unfoldable pub slotField : List ℕ → ℕ → SlotField
+slotField s at =
+    cond (isField s at 1 8)
+    (cond (leb (numberAt s (at + 3) 8) LAST-SLOT)
+    (slot-value (coreSlot (numberAt s (at + 3) 8)) (record { at = at + 11 }))
+    (slot-refused (refusal OUT-OF-RANGE at)))
+    (slot-refused (refusal BAD-FIELD at))
+
+-- Tag 2, length 1: T, 0 to 64.
+unfoldable pub limitField : List ℕ → ℕ → LimitField
+limitField s at =
+    cond (isField s at 2 1)
+    (cond (leb (contentAt s at 0) LONGEST)
+    (limit-value (contentAt s at 0) (record { at = at + 4 }))
+    (limit-refused (refusal OUT-OF-RANGE at)))
+    (limit-refused (refusal BAD-FIELD at))
+
+-- An id from 0 to 31 and a k from 0 to 8.
+unfoldable pub isListing : List ℕ → ℕ → Bool
+isListing s at = ltb (contentAt s at 0) IDS && leb (contentAt s at 1) LARGEST-K
+
+-- What the field at a place lists, its bound given or 0 for a short field, unless its id is not above the one before, below `floor`.
+unfoldable pub listedAs : List ℕ → ℕ → ℕ → ℕ → ℕ → ListedField
+listedAs s at floor bound next =
+    cond (leb floor (contentAt s at 0))
+    (listed-value (record { id = contentAt s at 0; period = 2 ^ contentAt s at 1; bound = bound }) (record { at = next }))
+    (listed-refused (refusal NOT-RISING at))
+
+-- Tag 3, length 3 (id, k, R) or length 2 (id, k).
+unfoldable pub listedField : List ℕ → ℕ → ℕ → ListedField
+listedField s at floor =
+    cond (isField s at 3 3)
+    (cond (isListing s at && isBound (contentAt s at 2))
+    (listedAs s at floor (contentAt s at 2) (at + 6))
+    (listed-refused (refusal OUT-OF-RANGE at)))
+    (cond (isField s at 3 2)
+    (cond (isListing s at) (listedAs s at floor 0 (at + 5)) (listed-refused (refusal OUT-OF-RANGE at)))
+    (listed-refused (refusal BAD-FIELD at)))
+
+-- A listing that asks for nothing.
+abbrev pub noAsks : List Ask
+noAsks = replicate IDS (record { period = 0; bound = 0 })
+
+-- The tag 3 fields from a place to the end of the record, ids from `floor` on. (At most `most` of them: as many as the record has bytes are enough.)
+unfoldable pub readListing : ℕ → List ℕ → ℕ → ℕ → List Ask → Listing
+readListing zero s at floor asks = record { reading = Whole; asks = asks }
+readListing (suc most) s at floor asks =
+    elim (leb (length s) at) [
+      | true ↦ record { reading = Whole; asks = asks }
+      | false ↦
+          elim (listedField s at floor) [
+            | listed-value l next ↦
+                readListing most s (next .at) (suc (l .id)) (set asks (l .id) (record { period = l .period; bound = l .bound }))
+            | listed-refused r ↦ record { reading = Refused r; asks = asks }
+          ]
+    ]
+
+-- A refused request asks for nothing.
+unfoldable pub refusedRequest : Refusal → ReadRequest
+refusedRequest r = record { reading = Refused r; request = record { slot = coreSlot 0; limit = 0; asks = noAsks } }
+
+-- The request slot and T with the listing that was read, or its refusal.
+unfoldable pub withListing : CoreSlot → ℕ → Listing → ReadRequest
+withListing slot limit listing =
+    elim (listing .reading) [
+      | Whole ↦ record { reading = Whole; request = record { slot = slot; limit = limit; asks = listing .asks } }
+      | Refused r ↦ refusedRequest r
+    ]
+
+-- Request, in this order, nothing after: the request slot, T, the tag 3 fields.
+unfoldable pub readRequest : List ℕ → ReadRequest
+readRequest s =
+    elim (slotField s 0) [
+      | slot-value slot next ↦
+          elim (limitField s (next .at)) [
+            | limit-value limit next ↦ withListing slot limit (readListing (length s) s (next .at) 0 noAsks)
+            | limit-refused r ↦ refusedRequest r
+          ]
+      | slot-refused r ↦ refusedRequest r
+    ]

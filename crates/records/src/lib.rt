@@ -1,0 +1,69 @@
+// Requests and answers as bytes. A field is either read or refused at once, left to right.
+use slots::CoreSlot;
+
+// Why a record was refused: document 01's number and place.
+pub struct Refusal {
+    pub number: u8,
+    pub place: usize,
+}
+
+// The place of the next field.
+pub struct Cursor {
+    pub at: usize,
+}
+
+// The request slot with the next cursor, or the refusal.
+pub enum SlotField {
+    Value(CoreSlot, Cursor),
+    Refused(Refusal),
+}
+
+// T with the next cursor, or the refusal.
+pub enum LimitField {
+    Value(u8, Cursor),
+    Refused(Refusal),
+}
+
+// What one field lists: an id, its period, and its bound, which is 0 where the field was short.
+pub struct Listed {
+    pub id: u8,
+    pub period: u16,
+    pub bound: u8,
+}
+
+// What a field lists with the next cursor, or the refusal.
+pub enum ListedField {
+    Value(Listed, Cursor),
+    Refused(Refusal),
+}
+
+// What a request asks for an id. A period of 0 says that it does not list the id, and a bound of 0 that its field was short.
+pub struct Ask {
+    pub period: u16,
+    pub bound: u8,
+}
+
+// Whether a whole record was read.
+pub enum Reading {
+    Whole,
+    Refused(Refusal),
+}
+
+// The listing of a request: what is asked for each id.
+pub struct Listing {
+    pub reading: Reading,
+    pub asks: [Ask; 32],
+}
+
+// The request slot, T and what is asked for each id.
+pub struct Request {
+    pub slot: CoreSlot,
+    pub limit: u8,
+    pub asks: [Ask; 32],
+}
+
+// A request as it was read. Where it was refused it asks for nothing.
+pub struct ReadRequest {
+    pub reading: Reading,
+    pub request: Request,
+}

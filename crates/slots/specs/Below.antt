@@ -1,0 +1,14 @@
+-- Questions about the numbers below a number: ids, slots of a cycle, places of a list.
+use mathlib.Core.Bool.{Bool, true, false, cond, _&&_}
+use mathlib.Core.Option.{Option, none, some}
+use Prim.Native.Nat.{ℕ, zero, suc}
+
+-- The test passes for every number below n.
+unfoldable pub every : ℕ → (ℕ → Bool) → Bool
+every zero test = true
+every (suc n) test = every n test && test n
+
+-- The lowest number below n for which the test passes, or none.
+unfoldable pub first : ℕ → (ℕ → Bool) → Option ℕ
+first zero test = none
+first (suc n) test = elim (first n test) [ none ↦ cond (test n) (some n) none | some i ↦ some i ]

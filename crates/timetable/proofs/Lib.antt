@@ -1,0 +1,5 @@
+pub mod Entries
+pub mod Ranges
+pub mod Cycle
+pub mod Meet
+pub mod Sound

@@ -1,0 +1,181 @@
+-- Soundness, from its test to what it says and back, clause by clause. Assumes nothing.
+use borrow.Author.Tests.{lt-ltb, le-ltb, le-leb, eq-eqb, ltb-true, ltb-false, leb-true, eqb-true, not-true}
+use lib.Dec.{eqb, leb, ltb}
+use lib.ListN.{getD}
+use mathlib.Core.Bool.{Bool, true, false, cond, not, _&&_, _||_, false≢true}
+use mathlib.Core.List.{List}
+use mathlib.Core.Logic.{_↔_, _≢_, _⊎_, inl, inr}
+use mathlib.Core.Path.{_≡_, refl, sym, ap, ap₂, _∙_, subst}
+use native.Mathlib.Decide.{decLe, decLt}
+use native.Mathlib.Nat.{div-add-mod', mod-lt, mod-mod-of-dvd}
+use native.Mathlib.Omega.{arith}
+use Prim.Native.Nat.{ℕ, suc, _+_, _-_, _*_, _/_, _%_, _≤_, _<_, _∣_}
+use Rattle.slots.proofs.Below.{and-both, or-either, every-at, every-all, true-false, decided}
+use Rattle.slots.specs.Below.{every}
+use Rattle.slots.specs.Limits.{IDS, LONGEST, WHOLE, LAST-SLOT}
+use Rattle.timetable.proofs.Cycle.{cyclic-own, cyclic-residue}
+use Rattle.timetable.proofs.Ranges.{Period, InRange, period-divides, in-range-from, in-range-is}
+use Rattle.timetable.specs.declared.Entry.{Entry}
+use Rattle.timetable.specs.declared.Timetable.{Timetable}
+use Rattle.timetable.specs.Sound.{requestInRange, lengthInRange, baseAsStated, ownersListed, entryInRange, entryBlank, entriesInRange, shareNone, noneShared, unusedOwnersZero, isSound}
+use Rattle.timetable.specs.Timetable.{noEntry, entryOf, isListed, cyclic}
+
+-- Every listed id's entry is in range, and every other id's entry is all zero.
+pub record Ranged (es : List Entry) : Type 0 where
+  pub listed : (i : ℕ) → i < IDS → isListed (entryOf es i) ≡ true → InRange (entryOf es i)
+  pub blank : (i : ℕ) → i < IDS → isListed (entryOf es i) ≡ false → entryOf es i ≡ noEntry
+
+-- No two listed ids share a cyclic slot, however far from the base.
+abbrev pub Apart : List Entry → Type 0
+Apart es = (i j : ℕ) → i < IDS → j < IDS → i ≢ j → (n : ℕ) → cyclic (entryOf es i) n ≡ true → cyclic (entryOf es j) n ≡ true → ⊥
+
+-- What a sound timetable says.
+pub record Sound (t : Timetable) : Type 0 where
+  pub request : t .request .0 ≤ LAST-SLOT
+  pub size : t .length ≤ LONGEST
+  pub base : t .base .0 ≡ t .request .0 + t .length
+  pub owners : (n : ℕ) → n < t .length → isListed (entryOf (t .entries) (getD (t .owners) n 0)) ≡ true
+  pub ranged : Ranged (t .entries)
+  pub apart : Apart (t .entries)
+  pub unused : (n : ℕ) → n < LONGEST → t .length ≤ n → getD (t .owners) n 0 ≡ 0
+
+-- ---- entries
+
+-- An entry with no period and nothing else is the blank one.
+blank-entry : (e : Entry) → isListed e ≡ false → entryBlank e ≡ true → e ≡ noEntry
+unfolding entryBlank
+blank-entry e l h =
+    let a = and-both (eqb (e .offset) 0 && eqb (e .bound) 0) (eqb (e .shortfall) 0) h in
+    let b = and-both (eqb (e .offset) 0) (eqb (e .bound) 0) (a .0) in
+    let p : e .period ≡ 0 = omega (arith, ltb-false 0 (e .period) l) in
+    let o : e .offset ≡ 0 = eqb-true _ _ (b .0) in
+    let r : e .bound ≡ 0 = eqb-true _ _ (b .1) in
+    let s : e .shortfall ≡ 0 = eqb-true _ _ (a .1) in
+    λ i. record { period = p i; offset = o i; bound = r i; shortfall = s i }
+
+pub ranged-from : (es : List Entry) → entriesInRange es ≡ true → Ranged es
+unfolding entriesInRange
+ranged-from es h = record { listed = λ i k l. in-range-from (entryOf es i) (at i k true l); blank = λ i k l. blank-entry (entryOf es i) l (at i k false l) }
+  where
+    test : ℕ → Bool
+    test i = cond (isListed (entryOf es i)) (entryInRange (entryOf es i)) (entryBlank (entryOf es i))
+
+    at : (i : ℕ) → i < IDS → (b : Bool) → isListed (entryOf es i) ≡ b → cond b (entryInRange (entryOf es i)) (entryBlank (entryOf es i)) ≡ true
+    at i k b e =
+        subst (λ (c : Bool). cond c (entryInRange (entryOf es i)) (entryBlank (entryOf es i)) ≡ true) e (every-at test IDS h i k)
+
+pub ranged-is : (es : List Entry) → Ranged es → entriesInRange es ≡ true
+unfolding entriesInRange entryBlank
+ranged-is es r = every-all _ IDS (λ i k. at i k (isListed (entryOf es i)) refl)
+  where
+    at : (i : ℕ) → i < IDS → (b : Bool) → isListed (entryOf es i) ≡ b → cond (isListed (entryOf es i)) (entryInRange (entryOf es i)) (entryBlank (entryOf es i)) ≡ true
+    at i k true e = rw e (in-range-is (entryOf es i) (r .listed i k e))
+    at i k false e = rw e (rw (r .blank i k e))
+
+-- ---- shared slots
+
+-- A cyclic slot of a period that divides 256 shows among the first 256.
+cyclic-mod : (e : Entry) (n : ℕ) → e .period ∣ WHOLE → cyclic e n ≡ cyclic e (n % WHOLE)
+unfolding cyclic
+cyclic-mod e n d = ap (λ (x : ℕ). isListed e && eqb x (e .offset)) (sym (mod-mod-of-dvd (e .period) n d))
+
+pub share-from : (e f : Entry) → e .period ∣ WHOLE → f .period ∣ WHOLE → shareNone e f ≡ true
+    → (n : ℕ) → cyclic e n ≡ true → cyclic f n ≡ true → ⊥
+unfolding shareNone
+share-from e f de df h n p q =
+    let m : ℕ = n % WHOLE in
+    let k : not (cyclic e m && cyclic f m) ≡ true = every-at (λ n. not (cyclic e n && cyclic f n)) WHOLE h m (mod-lt n {m = WHOLE} (omega arith)) in
+    true-false (ap₂ _&&_ (sym (cyclic-mod e n de) ∙ p) (sym (cyclic-mod f n df) ∙ q)) (not-true _ k)
+
+pub share-is : (e f : Entry) → ((n : ℕ) → cyclic e n ≡ true → cyclic f n ≡ true → ⊥) → shareNone e f ≡ true
+unfolding shareNone
+share-is e f h = every-all _ WHOLE (λ n k. at n (cyclic e n) (cyclic f n) refl refl)
+  where
+    at : (n : ℕ) (a b : Bool) → cyclic e n ≡ a → cyclic f n ≡ b → not (cyclic e n && cyclic f n) ≡ true
+    at n true true p q = absurd (h n p q)
+    at n true false p q = rw (p, q)
+    at n false b p q = rw p
+
+-- A cyclic slot is a listed entry's.
+pub cyclic-listed : (e : Entry) (n : ℕ) → cyclic e n ≡ true → isListed e ≡ true
+unfolding cyclic
+cyclic-listed e n h = and-both (isListed e) (eqb (n % e .period) (e .offset)) h .0
+
+pub apart-from : (es : List Entry) → Ranged es → noneShared es ≡ true → Apart es
+unfolding noneShared
+apart-from es r h i j ki kj ne n p q = at (decLt j i)
+  where
+    pair : (i j : ℕ) → i < IDS → j < i → cyclic (entryOf es i) n ≡ true → cyclic (entryOf es j) n ≡ true → ⊥
+    pair i j ki l p q =
+        let li = cyclic-listed (entryOf es i) n p in
+        let lj = cyclic-listed (entryOf es j) n q in
+        let k =
+        every-at
+        (λ j. not (isListed (entryOf es i) && isListed (entryOf es j)) || shareNone (entryOf es i) (entryOf es j))
+        i
+        (every-at _ IDS h i ki)
+        j
+        l in
+        share-from
+        (entryOf es i)
+        (entryOf es j)
+        (period-divides _ (r .listed i ki li .period))
+        (period-divides _ (r .listed j (omega arith) lj .period))
+        (rw (li, lj) at k)
+        n
+        p
+        q
+
+    at : Dec (j < i) → ⊥
+    at (yes l) = pair i j ki l p q
+    at (no l) = pair j i kj (omega arith) q p
+
+pub apart-is : (es : List Entry) → Apart es → noneShared es ≡ true
+unfolding noneShared
+apart-is es a = every-all _ IDS (λ i k. every-all _ i (λ j l. at i j k l (isListed (entryOf es i) && isListed (entryOf es j))))
+  where
+    at : (i j : ℕ) → i < IDS → j < i → (b : Bool) → not b || shareNone (entryOf es i) (entryOf es j) ≡ true
+    at i j k l true = share-is (entryOf es i) (entryOf es j) (a i j k (omega arith) (omega arith))
+    at i j k l false = refl
+
+-- ---- the whole timetable
+
+pub sound-from : (t : Timetable) → isSound t ≡ true → Sound t
+unfolding isSound requestInRange lengthInRange baseAsStated ownersListed unusedOwnersZero
+sound-from t h =
+    let a = and-both _ (unusedOwnersZero t) h in
+    let b = and-both _ (noneShared (t .entries)) (a .0) in
+    let c = and-both _ (entriesInRange (t .entries)) (b .0) in
+    let d = and-both _ (ownersListed t) (c .0) in
+    let e = and-both _ (baseAsStated t) (d .0) in
+    let f = and-both (requestInRange t) (lengthInRange t) (e .0) in
+    let r = ranged-from (t .entries) (c .1) in
+    record {
+      request = leb-true _ _ (f .0);
+      size = leb-true _ _ (f .1);
+      base = eqb-true _ _ (e .1);
+      owners = every-at _ (t .length) (d .1);
+      ranged = r;
+      apart = apart-from (t .entries) r (b .1);
+      unused = λ n k l. at n l (every-at (λ n. ltb n (t .length) || eqb (getD (t .owners) n 0) 0) LONGEST (a .1) n k);
+    }
+  where
+    at : (n : ℕ) → t .length ≤ n → ltb n (t .length) || eqb (getD (t .owners) n 0) 0 ≡ true → getD (t .owners) n 0 ≡ 0
+    at n l k = eqb-true _ _ (rw (le-ltb n (t .length) l) at k)
+
+pub sound-is : (t : Timetable) → Sound t → isSound t ≡ true
+unfolding isSound requestInRange lengthInRange baseAsStated ownersListed unusedOwnersZero
+sound-is t s =
+    ap₂ _&&_
+    (ap₂ _&&_
+    (ap₂ _&&_
+    (ap₂ _&&_ (ap₂ _&&_ (ap₂ _&&_ (le-leb _ _ (s .request)) (le-leb _ _ (s .size))) (eq-eqb _ _ (s .base))) (every-all _ (t .length) (s .owners)))
+    (ranged-is (t .entries) (s .ranged)))
+    (apart-is (t .entries) (s .apart)))
+    (every-all _ LONGEST (λ n k. at n k (decLt n (t .length))))
+  where
+    at : (n : ℕ) → n < LONGEST → Dec (n < t .length) → ltb n (t .length) || eqb (getD (t .owners) n 0) 0 ≡ true
+    at n k (yes l) = rw (lt-ltb n (t .length) l)
+    at n k (no l) =
+        let h : t .length ≤ n = omega arith in
+        rw (le-ltb n (t .length) h) (eq-eqb _ _ (s .unused n k h))

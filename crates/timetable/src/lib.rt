@@ -1,0 +1,54 @@
+// The timetable of one core: its limits, its fields and the empty one. Nothing here is refused.
+ghost use mathlib.Core.Path.{_≡_};
+ghost use Rattle.timetable.specs.Timetable.{emptyTimetable};
+use slots::CoreSlot;
+
+// What a timetable holds for one id. A period of 0 says that the id is not listed.
+pub struct Entry {
+    pub period: u16,
+    pub offset: u8,
+    pub bound: u8,
+    pub shortfall: u16,
+}
+
+// The request slot, the transition's length and owners, the base, and an entry for each id.
+pub struct Timetable {
+    pub request: CoreSlot,
+    pub length: u8,
+    pub owners: [u8; 64],
+    pub base: CoreSlot,
+    pub entries: [Entry; 32],
+}
+
+impl Timetable {
+    // Partitions have ids below this number.
+    pub const IDS: usize = 32;
+
+    // A transition has at most this many slots.
+    pub const LONGEST: usize = 64;
+
+    // A slot is counted in 256ths, and every period divides this many slots.
+    pub const WHOLE: u64 = 256;
+
+    // No answer record is longer, and no answer area may be shorter.
+    pub const AREA: usize = 231;
+
+    // The empty timetable: request slot 0, length 0 and nothing listed.
+    pub fn empty() -> Timetable
+        ensures { λ r. ⌜ r ≡ emptyTimetable ⌝ }
+    {
+        let none = Entry {
+            period: 0,
+            offset: 0,
+            bound: 0,
+            shortfall: 0,
+        };
+        Timetable {
+            request: CoreSlot(0),
+            length: 0,
+            owners: [0; Timetable::LONGEST],
+            base: CoreSlot(0),
+            entries: [none; Timetable::IDS],
+        }
+    }
+}

@@ -1,0 +1,421 @@
+//! Random streams of requests that aim: the state is followed by the model, and candidates are
+//! tried against it until one brings what is aimed at, such as a long transition or a refusal 8.
+
+use crate::change::{change, listed, Outcome, AREA};
+use crate::damage::damaged;
+use crate::random::Random;
+use crate::records::{longest_field, share_field, slot_field, Request};
+use crate::timetable::{
+    Entry, Listing, Share, Timetable, CYCLE, IDS, LARGEST_BOUND, LARGEST_EXPONENT, LAST_SLOT,
+    LONGEST_TRANSITION,
+};
+
+/// The candidates that are tried for one aim before a block is asked for instead.
+const CANDIDATES: usize = 24;
+/// A huge jump takes at most one in so many of the slots left, less in long streams.
+const LEAST_JUMP_PART: u64 = 64;
+/// The slots before the highest one at which a stream's last part goes on.
+const END_ROOM: u64 = 1 << 14;
+
+/// What a request is meant to bring.
+#[derive(Clone, Copy, PartialEq, Eq)]
+enum Aim {
+    Any,
+    Length(u8, u8),
+    Number(u8),
+}
+
+/// A stream of requests, with the timetable that holds after those given so far.
+pub struct Generator {
+    random: Random,
+    timetable: Timetable,
+    left: u64,
+    last_part: u64,
+    jump_part: u64,
+    pending: Option<Aim>,
+}
+
+impl Generator {
+    /// The stream of a seed with so many requests; its last fiftieth runs towards the highest slot.
+    pub fn new(seed: u64, count: u64) -> Generator {
+        Generator {
+            random: Random::new(seed),
+            timetable: Timetable::empty(),
+            left: count,
+            last_part: count / 50,
+            jump_part: (count / 64).max(LEAST_JUMP_PART),
+            pending: None,
+        }
+    }
+
+    /// One request, damaged or with some aim; an aim that waits for its block mostly comes first.
+    fn make(&mut self) -> Vec<u8> {
+        if let Some(aim) = self.pending.filter(|_| self.random.chance(3, 4)) {
+            return self.aimed(aim);
+        }
+        match self.random.below(100) {
+            0..=27 => {
+                let request = self.any_change();
+                let fields = fields(&mut self.random, &request);
+                damaged(&mut self.random, fields)
+            }
+            28..=31 => self.too_early(),
+            32..=35 => self.overfull(),
+            36..=45 => self.rebuilt(),
+            46..=54 => self.aimed(Aim::Any),
+            55..=62 => self.aimed(Aim::Length(1, 1)),
+            63..=75 => self.aimed(Aim::Length(2, 8)),
+            76..=86 => self.aimed(Aim::Length(9, LONGEST_TRANSITION as u8)),
+            87..=94 => self.aimed(Aim::Number(8)),
+            _ => self.aimed(Aim::Number(9)),
+        }
+    }
+
+    /// The first of some candidates that meets the aim; if none does, a block comes before it.
+    fn aimed(&mut self, aim: Aim) -> Vec<u8> {
+        for _ in 0..CANDIDATES {
+            let mut request = self.candidate(aim);
+            let outcome = self.outcome(&request);
+            if meets(aim, &outcome) {
+                self.tighten(&mut request, &outcome);
+                self.pending = None;
+                return self.record(&request);
+            }
+        }
+        self.missed_aim(aim)
+    }
+
+    /// A missed aim waits for the block that is asked for now, unless it has waited already.
+    fn missed_aim(&mut self, aim: Aim) -> Vec<u8> {
+        let again = self.pending.take().is_some();
+        let listing = if again { self.full_core() } else { self.block() };
+        self.pending = Some(aim).filter(|_| !again);
+        let request = self.request(listing);
+        self.record(&request)
+    }
+
+    /// Now and then T is set to the very length needed, or to one less.
+    fn tighten(&mut self, request: &mut Request, outcome: &Outcome) {
+        let length = outcome.timetable.length;
+        if outcome.number == 0 && length > 0 {
+            match self.random.below(12) {
+                0..=3 => request.longest = length,
+                4 => request.longest = length - 1,
+                _ => (),
+            }
+        }
+    }
+
+    /// What the model answers to a request from the present timetable.
+    fn outcome(&self, request: &Request) -> Outcome {
+        let mut record = slot_field(request.slot);
+        record.extend(longest_field(request.longest));
+        for (id, share) in listed(&request.listing) {
+            record.extend(share_field(id as u8, exponent(share), share.bound, false));
+        }
+        change(&self.timetable, &record, &mut [0; AREA])
+    }
+
+    /// A candidate suited to an aim: refusals 8 need lowered bounds, transitions need newcomers.
+    fn candidate(&mut self, aim: Aim) -> Request {
+        match aim {
+            Aim::Any => self.any_change(),
+            Aim::Number(8) => self.lowered_bounds(),
+            _ if self.random.chance(1, 3) => self.any_change(),
+            _ => self.newcomers(),
+        }
+    }
+
+    /// A change near the present listing, one to three alterations away.
+    fn any_change(&mut self) -> Request {
+        let mut listing = self.timetable.listing();
+        for _ in 0..self.random.between(1, 3) {
+            self.alter(&mut listing);
+        }
+        if self.random.chance(9, 10) {
+            self.fit(&mut listing);
+        }
+        self.request(listing)
+    }
+
+    /// One alteration: an id comes or leaves, a period or a bound goes up or down by one step.
+    fn alter(&mut self, listing: &mut Listing) {
+        let ids: Vec<usize> = listed(listing).map(|(id, _)| id).collect();
+        let choice = if ids.is_empty() { 0 } else { self.random.below(6) };
+        let Some(id) = self.random.pick(&ids).filter(|_| choice > 0) else {
+            let bound = self.bound();
+            self.add(listing, bound);
+            return;
+        };
+        let Some(share) = listing[id].as_mut() else { return };
+        match choice {
+            1 => share.period = (share.period / 2).max(1),
+            2 => share.period = (share.period * 2).min(CYCLE as u16),
+            3 => share.bound = (share.bound - 1).max(1),
+            4 => share.bound = (share.bound + 1).min(LARGEST_BOUND),
+            _ => listing[id] = None,
+        }
+    }
+
+    /// One or two newcomers with short periods and large bounds beside the present listing.
+    fn newcomers(&mut self) -> Request {
+        let mut listing = self.timetable.listing();
+        if self.random.chance(1, 3) {
+            self.remove_widest(&mut listing);
+        }
+        for _ in 0..self.random.between(1, 2) {
+            let bound = self.random.between(1, u64::from(LARGEST_BOUND)) as u8;
+            self.add(&mut listing, bound);
+        }
+        if self.random.chance(1, 4) {
+            self.fill(&mut listing);
+        }
+        self.fit(&mut listing);
+        let mut request = self.request(listing);
+        if self.random.chance(3, 4) {
+            request.longest = LONGEST_TRANSITION as u8;
+        }
+        if self.random.chance(2, 3) {
+            request.slot = self.slot_before_slices();
+        }
+        request
+    }
+
+    /// A slot at most a few slots before some listed partition's own, where its shortfall is high.
+    fn slot_before_slices(&mut self) -> u64 {
+        let listed: Vec<Entry> = self.timetable.entries.into_iter().filter(Entry::listed).collect();
+        let Some(entry) = self.random.pick(&listed) else { return self.slot() };
+        let later = u64::from(entry.period) * self.random.below(3);
+        let before = self.random.below(4);
+        let own = self.timetable.base.saturating_add(u64::from(entry.offset) + later);
+        own.saturating_sub(before).clamp(self.timetable.base.min(LAST_SLOT), LAST_SLOT)
+    }
+
+    /// Bounds lowered where the shortfall kept at the base may exceed them.
+    fn lowered_bounds(&mut self) -> Request {
+        let mut listing = self.timetable.listing();
+        for share in listing.iter_mut().flatten() {
+            if share.bound > 1 && self.random.chance(2, 3) {
+                share.bound = self.random.between(1, u64::from(share.bound) - 1) as u8;
+            }
+        }
+        self.request(listing)
+    }
+
+    /// A listing made anew: a block, all 32 ids, nothing, or any shares up to a full core.
+    fn rebuilt(&mut self) -> Vec<u8> {
+        let listing = match self.random.below(8) {
+            0..=4 => self.block(),
+            5 => self.all_ids(),
+            6 => [None; IDS],
+            _ => self.full_core(),
+        };
+        let request = self.request(listing);
+        self.record(&request)
+    }
+
+    /// A block of ids with one long period and bound 1, which the placement sets side by side.
+    fn block(&mut self) -> Listing {
+        let mut listing = [None; IDS];
+        let k = self.random.between(3, 7);
+        let most = (IDS as u64 - 2).min(1 << (k - 1));
+        let wanted = self.random.between(most / 2, most);
+        let kept = self.random.chance(1, 4);
+        for _ in 0..wanted {
+            let id = self.random.below(IDS as u64) as usize;
+            if !kept || !self.timetable.entries[id].listed() {
+                listing[id] = Some(Share { period: 1 << k, bound: 1 });
+            }
+        }
+        listing
+    }
+
+    /// All 32 ids on a full or nearly full core.
+    fn all_ids(&mut self) -> Listing {
+        let k = self.random.between(5, u64::from(LARGEST_EXPONENT));
+        let mut listing = [Some(Share { period: 1 << k, bound: 1 }); IDS];
+        for share in listing.iter_mut().flatten() {
+            share.bound = self.bound();
+        }
+        if k > 5 {
+            let id = self.random.below(IDS as u64) as usize;
+            listing[id] = Some(Share { period: 2, bound: self.bound() });
+        }
+        listing
+    }
+
+    /// Any shares, added until the core is full or nearly so.
+    fn full_core(&mut self) -> Listing {
+        let mut listing = [None; IDS];
+        for _ in 0..self.random.between(2, 12) {
+            let bound = self.bound();
+            self.add(&mut listing, bound);
+        }
+        self.fit(&mut listing);
+        if self.random.chance(3, 4) {
+            self.fill(&mut listing);
+        }
+        listing
+    }
+
+    /// Weights that sum to a little above 256, mostly from a full core.
+    fn overfull(&mut self) -> Vec<u8> {
+        let mut listing = self.timetable.listing();
+        self.fill(&mut listing);
+        for _ in 0..self.random.between(1, 3) {
+            let id = self.random.below(IDS as u64) as usize;
+            let k = self.random.between(0, u64::from(LARGEST_EXPONENT));
+            let bound = self.bound();
+            listing[id].get_or_insert(Share { period: 1 << k, bound });
+        }
+        let halved = self.random.chance(1, 2);
+        if let Some(share) = listing.iter_mut().flatten().next().filter(|_| halved) {
+            share.period = (share.period / 2).max(1);
+        }
+        let request = self.request(listing);
+        self.record(&request)
+    }
+
+    /// A slot before the base, mostly the one just before it.
+    fn too_early(&mut self) -> Vec<u8> {
+        let mut request = self.any_change();
+        let base = self.timetable.base;
+        request.slot = match self.random.below(4) {
+            0..=1 => base.saturating_sub(1),
+            2 => base.saturating_sub(self.random.between(1, 70)),
+            _ => self.random.below(base),
+        };
+        request.slot = request.slot.min(LAST_SLOT);
+        self.record(&request)
+    }
+
+    /// One more share for an id that is not listed, as heavy as the free weight allows or lighter.
+    fn add(&mut self, listing: &mut Listing, bound: u8) {
+        let unlisted: Vec<usize> = (0..IDS).filter(|&id| listing[id].is_none()).collect();
+        let Some(id) = self.random.pick(&unlisted) else { return };
+        let lightest = u64::from(LARGEST_EXPONENT);
+        let free = CYCLE as i64 - weights(listing);
+        let heaviest = (0..=lightest).find(|k| CYCLE as i64 >> k <= free).unwrap_or(lightest);
+        let further = if self.random.chance(1, 2) { 0 } else { self.random.between(0, 3) };
+        listing[id] = Some(Share { period: 1 << (heaviest + further).min(lightest), bound });
+    }
+
+    /// Shares are added until the weights sum to 256 or all ids are listed.
+    fn fill(&mut self, listing: &mut Listing) {
+        for _ in 0..IDS {
+            if weights(listing) < CYCLE as i64 {
+                let bound = self.bound();
+                self.add(listing, bound);
+            }
+        }
+    }
+
+    /// Shares are removed until the weights sum to at most 256.
+    fn fit(&mut self, listing: &mut Listing) {
+        while weights(listing) > CYCLE as i64 {
+            let ids: Vec<usize> = listed(listing).map(|(id, _)| id).collect();
+            match self.random.pick(&ids) {
+                Some(id) => listing[id] = None,
+                None => return,
+            }
+        }
+    }
+
+    /// The share with the shortest period leaves, so that a newcomer finds weight.
+    fn remove_widest(&mut self, listing: &mut Listing) {
+        if let Some((id, _)) = listed(listing).min_by_key(|(_, share)| share.period) {
+            listing[id] = None;
+        }
+    }
+
+    /// A bound, half the time 1.
+    fn bound(&mut self) -> u8 {
+        if self.random.chance(1, 2) {
+            1
+        } else {
+            self.random.between(1, u64::from(LARGEST_BOUND)) as u8
+        }
+    }
+
+    /// A request for a listing at some slot from the base on, with some T.
+    fn request(&mut self, listing: Listing) -> Request {
+        let longest = match self.random.below(8) {
+            0 => 0,
+            1..=4 => LONGEST_TRANSITION as u64,
+            5..=6 => self.random.between(1, 12),
+            _ => self.random.between(0, LONGEST_TRANSITION as u64),
+        };
+        Request { slot: self.slot(), longest: longest as u8, listing }
+    }
+
+    /// A slot from the base on: the base, a phase of the first cycles, or rarely a huge jump.
+    fn slot(&mut self) -> u64 {
+        let base = self.timetable.base;
+        let room = LAST_SLOT.saturating_sub(base);
+        if self.left <= self.last_part && room > END_ROOM {
+            return LAST_SLOT - self.random.below(END_ROOM);
+        }
+        let step = match self.random.below(100) {
+            0..=9 => 0,
+            10..=29 => self.random.below(8),
+            30..=59 => self.random.below(64),
+            60..=89 => self.random.below(CYCLE as u64),
+            90..=98 => self.random.below(4 * CYCLE as u64),
+            _ if self.random.chance(1, 2) => self.random.below(room / self.jump_part),
+            _ => self.random.below(1 << 20),
+        };
+        base.saturating_add(step).min(LAST_SLOT)
+    }
+
+    /// The record of a request, with some short fields where R is 1.
+    fn record(&mut self, request: &Request) -> Vec<u8> {
+        fields(&mut self.random, request).concat()
+    }
+}
+
+impl Iterator for Generator {
+    type Item = Vec<u8>;
+
+    /// The next request of the stream; the model's answer to it becomes the state.
+    fn next(&mut self) -> Option<Vec<u8>> {
+        if self.left == 0 {
+            return None;
+        }
+        let request = self.make();
+        self.left -= 1;
+        self.timetable = change(&self.timetable, &request, &mut [0; AREA]).timetable;
+        Some(request)
+    }
+}
+
+/// An aim is met by its number, or by an acceptance with a length in its range.
+fn meets(aim: Aim, outcome: &Outcome) -> bool {
+    match aim {
+        Aim::Any => true,
+        Aim::Number(number) => outcome.number == number,
+        Aim::Length(first, last) => {
+            outcome.number == 0 && (first..=last).contains(&outcome.timetable.length)
+        }
+    }
+}
+
+/// The fields of a request one by one, some short where R is 1.
+fn fields(random: &mut Random, request: &Request) -> Vec<Vec<u8>> {
+    let mut fields = vec![slot_field(request.slot), longest_field(request.longest)];
+    let all_short = random.chance(1, 4);
+    for (id, share) in listed(&request.listing) {
+        let short = all_short || random.chance(1, 3);
+        fields.push(share_field(id as u8, exponent(share), share.bound, short));
+    }
+    fields
+}
+
+/// The exponent k of a share's period 2^k.
+fn exponent(share: Share) -> u8 {
+    (0..=LARGEST_EXPONENT).find(|&k| share.period == 1 << k).unwrap_or(0)
+}
+
+/// The sum of a listing's weights.
+fn weights(listing: &Listing) -> i64 {
+    listed(listing).map(|(_, share)| share.weight()).sum()
+}

@@ -1,0 +1,21 @@
+//! An independent model of the timetable changer, written from document 01 by slots.
+//! It shares no code, no closed form and no shortcut with the library it is compared with.
+
+#![forbid(unsafe_code)]
+
+pub mod change;
+pub mod frames;
+pub mod generate;
+pub mod numbers;
+pub mod queries;
+pub mod random;
+pub mod records;
+pub mod timetable;
+
+mod damage;
+mod slots;
+
+#[cfg(test)]
+mod tests;
+#[cfg(test)]
+mod windows;

@@ -1,0 +1,128 @@
+//! Records: reading a request, where each field is read or refused at once, and writing an answer.
+
+use crate::change::Refusal;
+use crate::numbers;
+use crate::timetable::{
+    bound_in_range, Listing, Share, Timetable, IDS, LARGEST_EXPONENT, LAST_SLOT, LONGEST_TRANSITION,
+};
+
+/// The tags of a request's fields: slot, T, and a share.
+pub const TAG_SLOT: u8 = 1;
+pub const TAG_LONGEST: u8 = 2;
+pub const TAG_SHARE: u8 = 3;
+/// The tags of an answer's fields: transition length, owners, and an offset.
+pub const TAG_LENGTH: u8 = 0x10;
+pub const TAG_OWNERS: u8 = 0x11;
+pub const TAG_OFFSET: u8 = 0x12;
+
+/// The bytes of a tag and a length before the content.
+const HEAD: usize = 3;
+
+/// What a request asks: its slot, the longest transition T, and the listing from that slot on.
+#[derive(Clone, Copy, Debug, PartialEq, Eq)]
+pub struct Request {
+    pub slot: u64,
+    pub longest: u8,
+    pub listing: Listing,
+}
+
+/// A request is a slot, T, and 0 to 32 shares with rising ids, in this order, nothing after.
+pub fn read_request(record: &[u8]) -> Result<Request, Refusal> {
+    let (slot, at) = read_slot(record)?;
+    let (longest, mut at) = read_longest(record, at)?;
+    let mut listing = [None; IDS];
+    let mut before = None;
+    while at < record.len() {
+        let (id, share, next) = read_share(record, at, before)?;
+        listing[usize::from(id)] = Some(share);
+        before = Some(id);
+        at = next;
+    }
+    Ok(Request { slot, longest, listing })
+}
+
+/// Tag 1, length 8: the request slot, at most 2^48 - 1.
+fn read_slot(record: &[u8]) -> Result<(u64, usize), Refusal> {
+    let content = field(record, 0, TAG_SLOT, &[8])?;
+    let slot = content.iter().fold(0, |number, &byte| number * 256 + u64::from(byte));
+    in_range(slot <= LAST_SLOT, 0)?;
+    Ok((slot, HEAD + content.len()))
+}
+
+/// Tag 2, length 1: T, at most 64.
+fn read_longest(record: &[u8], at: usize) -> Result<(u8, usize), Refusal> {
+    let content = field(record, at, TAG_LONGEST, &[1])?;
+    let longest = content.first().copied().unwrap_or(u8::MAX);
+    in_range(usize::from(longest) <= LONGEST_TRANSITION, at)?;
+    Ok((longest, at + HEAD + content.len()))
+}
+
+/// Tag 3, length 3 (id, k, R) or length 2 (id, k), where R is 1; ids strictly rise.
+fn read_share(record: &[u8], at: usize, before: Option<u8>) -> Result<(u8, Share, usize), Refusal> {
+    let content = field(record, at, TAG_SHARE, &[2, 3])?;
+    let (id, k, bound) = match *content {
+        [id, k] => (id, k, 1),
+        [id, k, bound] => (id, k, bound),
+        _ => return Err(Refusal::at_byte(numbers::WRONG_FIELD, at)),
+    };
+    in_range(usize::from(id) < IDS && k <= LARGEST_EXPONENT && bound_in_range(bound), at)?;
+    if before.is_some_and(|before| id <= before) {
+        return Err(Refusal::at_byte(numbers::ID_NOT_RISING, at));
+    }
+    Ok((id, Share { period: 1 << k, bound }, at + HEAD + content.len()))
+}
+
+/// The content of the field at a byte, unless it is missing, another, of wrong length or cut off.
+fn field<'a>(record: &'a [u8], at: usize, tag: u8, lengths: &[usize]) -> Result<&'a [u8], Refusal> {
+    let rest = record.get(at..).unwrap_or(&[]);
+    if let [found, high, low, content @ ..] = rest {
+        let length = usize::from(*high) * 256 + usize::from(*low);
+        if *found == tag && lengths.contains(&length) && length <= content.len() {
+            return Ok(&content[..length]);
+        }
+    }
+    Err(Refusal::at_byte(numbers::WRONG_FIELD, at))
+}
+
+/// A value out of range is refused with 4 at its field's tag byte.
+fn in_range(holds: bool, at: usize) -> Result<(), Refusal> {
+    if holds {
+        Ok(())
+    } else {
+        Err(Refusal::at_byte(numbers::OUT_OF_RANGE, at))
+    }
+}
+
+/// The answer: transition length, owners, then each listed id with its offset, ids rising.
+pub fn write_answer(timetable: &Timetable) -> Vec<u8> {
+    let owners = timetable.transition();
+    let mut answer = vec![TAG_LENGTH, 0, 1, timetable.length, TAG_OWNERS, 0, owners.len() as u8];
+    answer.extend_from_slice(owners);
+    for (id, entry) in (0u8..).zip(&timetable.entries) {
+        if entry.listed() {
+            answer.extend_from_slice(&[TAG_OFFSET, 0, 2, id, entry.offset]);
+        }
+    }
+    answer
+}
+
+/// A share's field in full, or short where R is 1 and a short one is wanted.
+pub fn share_field(id: u8, k: u8, bound: u8, short: bool) -> Vec<u8> {
+    if short && bound == 1 {
+        vec![TAG_SHARE, 0, 2, id, k]
+    } else {
+        vec![TAG_SHARE, 0, 3, id, k, bound]
+    }
+}
+
+/// The field of a request slot.
+pub fn slot_field(slot: u64) -> Vec<u8> {
+    let mut field = vec![TAG_SLOT, 0, 8];
+    field.extend_from_slice(&slot.to_be_bytes());
+    field
+}
+
+/// The field of the longest transition T.
+pub fn longest_field(longest: u8) -> Vec<u8> {
+    vec![TAG_LONGEST, 0, 1, longest]
+}

@@ -1,0 +1,788 @@
+//! The bench cases with their exact bytes and numbers, every refusal and the order of the stages,
+//! the clauses of soundness, both queries, the frames, and the skip of repeated cycles.
+
+use crate::change::{change, most_urgent, placement, Outcome, AREA};
+use crate::frames::{frame, print_lines, LONGEST_FRAME};
+use crate::generate::Generator;
+use crate::queries::{owner_query, standing_query};
+use crate::records::{longest_field, share_field, slot_field};
+use crate::slots::{last_offset, next_shortfall, room, Shortfalls, Walk};
+use crate::timetable::{Entry, Listing, Share, Timetable, CYCLE, IDLE, IDS, LAST_SLOT};
+
+/// A byte that no answer leaves in a whole area, to see which bytes were written.
+const BEFORE: u8 = 0xa5;
+
+/// A request with its shares in full: id, k and R.
+fn record(slot: u64, longest: u8, shares: &[(u8, u8, u8)]) -> Vec<u8> {
+    let mut record = [slot_field(slot), longest_field(longest)].concat();
+    for &(id, k, bound) in shares {
+        record.extend(share_field(id, k, bound, false));
+    }
+    record
+}
+
+/// The outcome of a request with an area of 300 bytes, all checks on the area included.
+fn answered(timetable: &Timetable, record: &[u8]) -> (Outcome, Vec<u8>) {
+    let mut area = vec![BEFORE; 300];
+    let outcome = change(timetable, record, &mut area);
+    let rest = area.split_off(outcome.written);
+    assert!(rest.iter().all(|&byte| byte == BEFORE), "bytes after the record stay");
+    (outcome, area)
+}
+
+/// A request is refused with a number, a place and tries, and the timetable is handed back.
+fn refused(timetable: &Timetable, record: &[u8], number: u8, place: u64, tries: u16) {
+    let (outcome, _) = answered(timetable, record);
+    let wanted = Outcome { number, place, tries, written: 0, timetable: *timetable };
+    assert_eq!(outcome, wanted);
+}
+
+/// A request is accepted with so many tries; the new timetable is sound.
+fn accepted(timetable: &Timetable, record: &[u8], tries: u16) -> Timetable {
+    let (outcome, _) = answered(timetable, record);
+    assert_eq!((outcome.number, outcome.place, outcome.tries), (0, 0, tries));
+    assert!(outcome.timetable.sound());
+    outcome.timetable
+}
+
+/// The offsets of some ids.
+fn offsets<const N: usize>(timetable: &Timetable, ids: [usize; N]) -> [u8; N] {
+    ids.map(|id| timetable.entries[id].offset)
+}
+
+/// The shortfalls of ids 0, 1 and 2 at a slot, as the standing query gives them.
+fn shortfalls(timetable: &Timetable, slot: u64) -> [u16; 3] {
+    [0, 1, 2].map(|id| standing_query(timetable, id, slot).1)
+}
+
+/// Case A's request.
+fn request_a() -> Vec<u8> {
+    record(0, 0, &[(0, 2, 1), (1, 2, 1)])
+}
+
+/// Case B's request with some T.
+fn request_b(longest: u8) -> Vec<u8> {
+    record(6, longest, &[(0, 2, 1), (1, 2, 1), (2, 1, 2)])
+}
+
+/// The timetable after case A.
+fn after_a() -> Timetable {
+    accepted(&Timetable::empty(), &request_a(), 1)
+}
+
+/// The timetable after case B.
+fn after_b() -> Timetable {
+    accepted(&after_a(), &request_b(1), 2)
+}
+
+/// Case D's and E's listing at a slot.
+fn request_d(slot: u64, longest: u8) -> Vec<u8> {
+    record(slot, longest, &[(0, 2, 1), (1, 2, 1), (2, 1, 1)])
+}
+
+/// A: on the empty timetable, two periods of 4 get offsets 3 and 2.
+#[test]
+fn case_a() {
+    let (outcome, area) = answered(&Timetable::empty(), &request_a());
+    let bytes = [0x10, 0, 1, 0, 0x11, 0, 0, 0x12, 0, 2, 0, 3, 0x12, 0, 2, 1, 2];
+    assert_eq!(area, bytes);
+    assert_eq!((outcome.number, outcome.place, outcome.tries), (0, 0, 1));
+    assert_eq!(outcome.written, bytes.len());
+    let timetable = after_a();
+    assert_eq!((timetable.request_slot, timetable.length, timetable.base), (0, 0, 0));
+    assert_eq!(offsets(&timetable, [0, 1]), [3, 2]);
+}
+
+/// A with short fields, where R is then 1, gives the same timetable.
+#[test]
+fn case_a_with_short_fields() {
+    let record = [1, 0, 8, 0, 0, 0, 0, 0, 0, 0, 0, 2, 0, 1, 0, 3, 0, 2, 0, 2, 3, 0, 3, 1, 2, 1];
+    assert_eq!(accepted(&Timetable::empty(), &record, 1), after_a());
+    let short =
+        [slot_field(0), longest_field(0), share_field(0, 2, 1, true), share_field(1, 2, 1, true)];
+    assert_eq!(short.concat().len(), 25);
+    assert_eq!(accepted(&Timetable::empty(), &short.concat(), 1), after_a());
+}
+
+/// B: length 0 is passed over, slot 6 goes to id 1, and the base is 7.
+#[test]
+fn case_b() {
+    let a = after_a();
+    assert_eq!(standing_query(&a, 0, 6), (0, 128, 1));
+    assert_eq!(standing_query(&a, 1, 6), (0, 192, 1));
+    let (outcome, area) = answered(&a, &request_b(1));
+    let bytes =
+        [0x10, 0, 1, 1, 0x11, 0, 1, 1, 0x12, 0, 2, 0, 0, 0x12, 0, 2, 1, 2, 0x12, 0, 2, 2, 1];
+    assert_eq!(area, bytes);
+    assert_eq!((outcome.number, outcome.place, outcome.tries, outcome.written), (0, 0, 2, 23));
+    let b = outcome.timetable;
+    assert_eq!((b.request_slot, b.length, b.base), (6, 1, 7));
+    assert_eq!(b.transition(), [1]);
+    assert_eq!(offsets(&b, [0, 1, 2]), [0, 2, 1]);
+    assert_eq!([0, 1, 2].map(|id| b.entries[id].shortfall), [192, 0, 128]);
+    assert_eq!(accepted(&a, &request_b(64), 2), b);
+}
+
+/// C: B with T 0 is refused 9 after one try.
+#[test]
+fn case_c() {
+    refused(&after_a(), &request_b(0), 9, 0, 1);
+}
+
+/// D: a shortfall of 256 is not below 256 times a new R of 1.
+#[test]
+fn case_d() {
+    let b = after_b();
+    assert_eq!(shortfalls(&b, 8)[2], 256);
+    refused(&b, &request_d(8, 64), 8, 2, 0);
+}
+
+/// E: refused 9 for every T, with at most three tries.
+#[test]
+fn case_e() {
+    for longest in 0..=64 {
+        refused(&after_b(), &request_d(9, longest), 9, 0, u16::from(longest).min(2) + 1);
+    }
+}
+
+/// F: a slot before the base is too early, the base is not.
+#[test]
+fn case_f() {
+    let b = after_b();
+    refused(&b, &record(6, 64, &[]), 6, 0, 0);
+    refused(&b, &request_d(6, 64), 6, 0, 0);
+    accepted(&b, &record(7, 64, &[]), 1);
+    assert_ne!(answered(&b, &request_d(7, 64)).0.number, 6);
+}
+
+/// G: the shortfall of figure 7 is 448 at slot 8.
+#[test]
+fn case_g() {
+    let mut shortfall = 0;
+    for slot in 0..8 {
+        let weight = if slot < 4 { 64 } else { 256 };
+        shortfall = next_shortfall(shortfall, weight, [0, 4, 5, 6].contains(&slot));
+    }
+    assert_eq!(shortfall, 448);
+}
+
+/// H: room and last offset of the shares named there.
+#[test]
+fn case_h() {
+    let quarter = Share { period: 4, bound: 1 };
+    assert_eq!([0, 128, 192].map(|shortfall| room(shortfall, quarter)), [3, 1, 0]);
+    let half = Share { period: 2, bound: 2 };
+    assert_eq!((room(0, half), last_offset(0, half)), (3, 1));
+}
+
+/// Room by passing slots is (256 R - 1 - shortfall) / weight, rounded down.
+#[test]
+fn room_is_the_quotient_rounded_down() {
+    for k in 0..=8 {
+        for bound in 1..=8 {
+            let share = Share { period: 1 << k, bound };
+            for shortfall in 0..256 * i64::from(bound) {
+                let quotient = (256 * i64::from(bound) - 1 - shortfall) / share.weight();
+                assert_eq!(i64::from(room(shortfall, share)), quotient);
+            }
+        }
+    }
+}
+
+/// I: the empty listing is accepted with seven bytes.
+#[test]
+fn case_i() {
+    let (outcome, area) = answered(&Timetable::empty(), &record(0, 0, &[]));
+    assert_eq!(area, [0x10, 0, 1, 0, 0x11, 0, 0]);
+    assert_eq!((outcome.number, outcome.tries, outcome.written), (0, 1, 7));
+    assert_eq!(outcome.timetable, Timetable::empty());
+    let after = accepted(&after_b(), &record(99, 64, &[]), 1);
+    assert_eq!(after, Timetable { request_slot: 99, base: 99, ..Timetable::empty() });
+}
+
+/// J: period 1 alone gets offset 0; a later id besides is refused 7 at that id.
+#[test]
+fn case_j() {
+    let alone = accepted(&Timetable::empty(), &record(0, 0, &[(4, 0, 1)]), 1);
+    assert_eq!(offsets(&alone, [4]), [0]);
+    for later in 5..32 {
+        refused(
+            &Timetable::empty(),
+            &record(0, 64, &[(4, 0, 1), (later, 8, 8)]),
+            7,
+            u64::from(later),
+            0,
+        );
+    }
+}
+
+/// The cases that are run only: records cut short, the limits of slot, T and area.
+#[test]
+fn run_only_cases() {
+    let empty = Timetable::empty();
+    refused(&empty, &[], 3, 0, 0);
+    refused(&empty, &slot_field(0), 3, 11, 0);
+    refused(&empty, &record(LAST_SLOT + 1, 0, &[]), 4, 0, 0);
+    accepted(&empty, &record(LAST_SLOT, 64, &[]), 1);
+    refused(&empty, &record(0, 65, &[]), 4, 11, 0);
+    let mut area = [BEFORE; 230];
+    let outcome = change(&empty, &request_a(), &mut area);
+    assert_eq!((outcome.number, outcome.place, outcome.tries, outcome.written), (2, 0, 0, 0));
+    assert_eq!((outcome.timetable, area), (empty, [BEFORE; 230]));
+    assert_eq!(change(&empty, &request_a(), &mut [BEFORE; 231]).number, 0);
+    assert_eq!(change(&empty, &[], &mut []).number, 2);
+}
+
+/// 64 owners and 32 offsets make 231 bytes.
+#[test]
+fn the_longest_answer_has_231_bytes() {
+    let timetable = Timetable { length: 64, base: 64, ..all_listed() };
+    assert!(timetable.sound());
+    assert_eq!(crate::records::write_answer(&timetable).len(), AREA);
+}
+
+/// All 32 ids with period 32, each with its own offset.
+fn all_listed() -> Timetable {
+    let mut timetable = Timetable::empty();
+    for (offset, entry) in (0..).zip(&mut timetable.entries) {
+        *entry = Entry { period: 32, offset, bound: 1, shortfall: 0 };
+    }
+    timetable
+}
+
+/// All 32 ids are written with their offsets, ids rising.
+#[test]
+fn a_full_area_is_written() {
+    let shares: Vec<(u8, u8, u8)> = (0..32).map(|id| (id, 5, 1)).collect();
+    let (outcome, area) = answered(&Timetable::empty(), &record(0, 64, &shares));
+    assert_eq!((outcome.number, outcome.written), (0, 7 + 160));
+    for id in 0..32 {
+        let at = 7 + 5 * id;
+        assert_eq!(area[at..at + 5], [0x12, 0, 2, id as u8, 31 - id as u8]);
+    }
+}
+
+/// A field cut off, missing, unknown, out of order or of wrong length is 3 at its tag's byte.
+#[test]
+fn fields_refused_3() {
+    let empty = Timetable::empty();
+    let whole = record(5, 7, &[(1, 2, 3), (4, 5, 6)]);
+    for end in 0..whole.len() {
+        let place = [0, 11, 15, 21].into_iter().filter(|&at| at <= end).max();
+        match end {
+            15 | 21 => assert_eq!(answered(&empty, &whole[..end]).0.number, 0),
+            _ => refused(&empty, &whole[..end], 3, place.unwrap_or(0) as u64, 0),
+        }
+    }
+    for (at, tag) in [(0, 2), (0, 3), (11, 1), (11, 3), (15, 1), (15, 2), (21, 4), (21, 0x12)] {
+        let mut changed = whole.clone();
+        changed[at] = tag;
+        refused(&empty, &changed, 3, at as u64, 0);
+    }
+    for (at, length) in [(0, 7), (0, 9), (11, 0), (11, 2), (15, 0), (15, 1), (15, 4), (21, 255)] {
+        let mut changed = whole.clone();
+        changed[at + 2] = length;
+        refused(&empty, &changed, 3, at as u64, 0);
+        changed[at + 2] = whole[at + 2];
+        changed[at + 1] = 1;
+        refused(&empty, &changed, 3, at as u64, 0);
+    }
+    for tail in [0, 1, 2, 3, 255] {
+        refused(&empty, &[&whole[..], &[tail]].concat(), 3, 27, 0);
+    }
+    refused(&empty, &longest_field(0), 3, 0, 0);
+    refused(&empty, &[slot_field(0), share_field(0, 0, 1, false)].concat(), 3, 11, 0);
+    refused(&empty, &[&whole[..15], &longest_field(0)].concat(), 3, 15, 0);
+}
+
+/// A value out of range is 4 at its field's tag byte.
+#[test]
+fn fields_refused_4() {
+    let empty = Timetable::empty();
+    for share in
+        [(32, 0, 1), (255, 0, 1), (0, 9, 1), (0, 255, 1), (0, 0, 0), (0, 0, 9), (0, 0, 255)]
+    {
+        refused(&empty, &record(0, 0, &[share]), 4, 15, 0);
+    }
+    refused(&empty, &[record(0, 0, &[]), vec![3, 0, 2, 32, 0]].concat(), 4, 15, 0);
+    refused(&empty, &[record(0, 0, &[]), vec![3, 0, 2, 0, 9]].concat(), 4, 15, 0);
+    refused(&empty, &record(u64::MAX, 0, &[]), 4, 0, 0);
+    refused(&empty, &record(0, 255, &[]), 4, 11, 0);
+}
+
+/// An id not above the one before is 5; a 33rd field is 4, 5 or 3.
+#[test]
+fn fields_refused_5() {
+    let empty = Timetable::empty();
+    refused(&empty, &record(0, 0, &[(3, 8, 1), (3, 8, 1)]), 5, 21, 0);
+    refused(&empty, &record(0, 0, &[(3, 8, 1), (4, 8, 1), (0, 8, 1)]), 5, 27, 0);
+    let mut shares: Vec<(u8, u8, u8)> = (0..32).map(|id| (id, 8, 1)).collect();
+    accepted(&empty, &record(0, 0, &shares), 1);
+    for (id, number) in [(31, 5), (0, 5), (32, 4), (255, 4)] {
+        shares.push((id, 8, 1));
+        refused(&empty, &record(0, 0, &shares), number, 15 + 32 * 6, 0);
+        shares.pop();
+    }
+    let thirty_third = [record(0, 0, &shares), vec![3, 0, 1, 0]].concat();
+    refused(&empty, &thirty_third, 3, 15 + 32 * 6, 0);
+}
+
+/// A request with several faults is refused for the one of the lowest stage.
+#[test]
+fn the_lowest_stage_wins() {
+    let b = after_b();
+    let unsound = Timetable { base: 0, ..b };
+    let mut small = [BEFORE; 230];
+    assert_eq!(change(&unsound, &[], &mut small).number, 1);
+    assert_eq!(change(&b, &[], &mut small).number, 2);
+    assert_eq!(small, [BEFORE; 230]);
+    // Within a field 3 stands before 4 and 4 before 5; an earlier field stands before a later one.
+    refused(&b, &[record(6, 0, &[]), vec![3, 0, 4, 32, 9, 9, 9]].concat(), 3, 15, 0);
+    refused(&b, &[record(6, 0, &[]), vec![3, 0, 3, 32, 9]].concat(), 3, 15, 0);
+    refused(&b, &record(6, 0, &[(5, 0, 1), (4, 9, 1)]), 4, 21, 0);
+    refused(&b, &record(6, 0, &[(5, 0, 1), (5, 0, 1), (40, 9, 1)]), 5, 21, 0);
+    refused(&b, &[record(LAST_SLOT + 1, 65, &[(32, 0, 1)]), vec![9]].concat(), 4, 0, 0);
+    refused(&b, &[record(6, 65, &[(32, 0, 1)]), vec![9]].concat(), 4, 11, 0);
+    // Every field comes before 6, 6 before 7, 7 before 8, 8 before 9.
+    refused(&b, &record(6, 0, &[(0, 0, 1), (0, 0, 1)]), 5, 21, 0);
+    refused(&b, &record(6, 0, &[(0, 0, 1), (2, 1, 1)]), 6, 0, 0);
+    refused(&b, &record(8, 0, &[(0, 0, 1), (2, 1, 1)]), 7, 2, 0);
+    refused(&b, &request_d(8, 0), 8, 2, 0);
+    refused(&b, &request_d(9, 0), 9, 0, 1);
+}
+
+/// The place of 7 is the id at which the running sum, ids rising, first passes 256.
+#[test]
+fn seven_names_the_id_where_the_running_sum_passes() {
+    let empty = Timetable::empty();
+    refused(&empty, &record(0, 0, &[(1, 1, 1), (2, 2, 1), (9, 1, 1), (11, 0, 1)]), 7, 9, 0);
+    refused(&empty, &record(0, 0, &[(1, 1, 1), (2, 1, 1), (30, 8, 1), (31, 8, 1)]), 7, 30, 0);
+    accepted(&empty, &record(0, 0, &[(1, 1, 1), (2, 1, 1)]), 1);
+}
+
+/// One that leaves and returns in one slot starts at 0; one that stays keeps its shortfall.
+#[test]
+fn a_partition_that_returns_starts_at_zero() {
+    let a = after_a();
+    assert_eq!(shortfalls(&a, 2), [128, 128, 0]);
+    let left = accepted(&a, &record(2, 0, &[(1, 2, 1)]), 1);
+    let back = accepted(&left, &record(2, 0, &[(0, 2, 1), (1, 2, 1)]), 1);
+    assert_eq!([0, 1].map(|id| back.entries[id].shortfall), [0, 128]);
+    assert_eq!(offsets(&back, [0, 1]), [3, 1]);
+    let kept = accepted(&a, &record(2, 0, &[(0, 2, 1), (1, 2, 1)]), 1);
+    assert_eq!([0, 1].map(|id| kept.entries[id].shortfall), [128, 128]);
+    assert_eq!(offsets(&kept, [0, 1]), [1, 0]);
+}
+
+/// A shortfall of exactly 256 R is refused 8, one less is not.
+#[test]
+fn a_shortfall_of_exactly_the_bound_is_refused() {
+    let mut timetable = Timetable::empty();
+    timetable.entries[7] = Entry { period: 2, offset: 0, bound: 3, shortfall: 512 };
+    assert!(timetable.sound());
+    refused(&timetable, &record(0, 64, &[(7, 1, 2)]), 8, 7, 0);
+    timetable.entries[7].shortfall = 511;
+    accepted(&timetable, &record(0, 64, &[(7, 1, 2)]), 1);
+}
+
+/// Period 2 takes offset 1, so that a period of 4 with last offset 0 finds its slot free.
+#[test]
+fn the_latest_free_offset_is_taken() {
+    let mut timetable = Timetable::empty();
+    timetable.entries[3] = Entry { period: 4, offset: 0, bound: 1, shortfall: 192 };
+    let both = accepted(&timetable, &record(0, 0, &[(0, 1, 1), (3, 2, 1)]), 1);
+    assert_eq!(offsets(&both, [0, 3]), [1, 0]);
+}
+
+/// A listing of some ids, each with its period and R, and their shortfalls.
+fn standing(shares: &[(usize, u16, u8, i64)]) -> (Listing, Shortfalls) {
+    let (mut listing, mut shortfalls) = ([None; IDS], [0; IDS]);
+    for &(id, period, bound, shortfall) in shares {
+        listing[id] = Some(Share { period, bound });
+        shortfalls[id] = shortfall;
+    }
+    (listing, shortfalls)
+}
+
+/// Who gets the next transition slot, if it is not missed.
+fn urgent(shares: &[(usize, u16, u8, i64)]) -> Option<u8> {
+    let (listing, shortfalls) = standing(shares);
+    most_urgent(&listing, &shortfalls)
+}
+
+/// Rule 3: the least room, ties to the lower id, and the missed slot.
+#[test]
+fn the_least_room_is_served_first() {
+    assert_eq!(urgent(&[]), None);
+    assert_eq!(urgent(&[(4, 4, 1, 192)]), Some(4));
+    assert_eq!(urgent(&[(4, 4, 1, 191), (9, 4, 1, 192)]), Some(9));
+    // Ties go to the lower id, whatever the shortfalls and periods.
+    assert_eq!(urgent(&[(4, 4, 1, 64), (9, 4, 1, 120), (20, 2, 2, 255)]), Some(4));
+    assert_eq!(urgent(&[(4, 4, 1, 0), (9, 4, 1, 65), (20, 2, 2, 250)]), Some(9));
+    // The slot is missed if another has room 0 as well.
+    assert_eq!(urgent(&[(4, 4, 1, 192), (9, 1, 1, 0)]), None);
+    assert_eq!(urgent(&[(4, 4, 1, 191), (9, 1, 1, 0)]), Some(9));
+    assert_eq!(urgent(&[(4, 256, 8, 2047), (9, 256, 8, 2046), (31, 256, 8, 2047)]), None);
+}
+
+/// The offsets of the placement, in the order in which the ids are given.
+fn placed(shares: &[(usize, u16, u8, i64)]) -> Option<Vec<u16>> {
+    let (listing, shortfalls) = standing(shares);
+    let offsets = placement(&listing, &shortfalls)?;
+    Some(shares.iter().map(|&(id, ..)| offsets[id]).collect())
+}
+
+/// Rule 4: by period, then last offset, then id, each with the largest free offset.
+#[test]
+fn the_placement_keeps_its_order() {
+    assert_eq!(placed(&[]), Some(vec![]));
+    // Period 2 takes 1 and 3; of two periods of 4 the one with the smaller last offset comes first.
+    assert_eq!(placed(&[(0, 4, 1, 0), (1, 4, 1, 64), (2, 2, 1, 0)]), Some(vec![0, 2, 1]));
+    assert_eq!(placed(&[(0, 4, 1, 64), (1, 4, 1, 0), (2, 2, 1, 0)]), Some(vec![2, 0, 1]));
+    // With equal last offsets the lower id comes first.
+    assert_eq!(placed(&[(0, 4, 1, 0), (1, 4, 1, 0), (2, 2, 1, 0)]), Some(vec![2, 0, 1]));
+    // The shorter period comes first although its last offset is larger.
+    assert_eq!(placed(&[(5, 8, 1, 224), (6, 2, 1, 0)]), Some(vec![0, 1]));
+    assert_eq!(placed(&[(5, 8, 1, 192), (6, 2, 1, 0)]), Some(vec![0, 1]));
+    // Case B's length 0 is passed over.
+    assert_eq!(placed(&[(0, 4, 1, 128), (1, 4, 1, 192), (2, 2, 2, 0)]), None);
+}
+
+/// A timetable is not sound: it is refused with 1 everywhere and handed back as it is.
+fn not_sound(edit: impl Fn(&mut Timetable)) {
+    let mut timetable = after_b();
+    edit(&mut timetable);
+    assert!(!timetable.sound());
+    refused(&timetable, &record(100, 0, &[]), 1, 0, 0);
+    refused(&timetable, &[], 1, 0, 0);
+    assert_eq!(owner_query(&timetable, u64::MAX), (1, 0));
+    assert_eq!(standing_query(&timetable, 255, u64::MAX), (1, 0, 0));
+}
+
+/// One timetable, or some, for each clause that it breaks.
+#[test]
+fn each_clause_of_soundness() {
+    not_sound(|t| (t.request_slot, t.base) = (LAST_SLOT + 1, LAST_SLOT + 2));
+    not_sound(|t| (t.request_slot, t.base) = (u64::MAX, 0));
+    not_sound(|t| (t.length, t.base) = (65, 6 + 65));
+    not_sound(|t| (t.length, t.base) = (255, 6 + 255));
+    not_sound(|t| t.base = 6);
+    not_sound(|t| t.base = 8);
+    not_sound(|t| t.owners[0] = 3);
+    not_sound(|t| t.owners[0] = 32);
+    not_sound(|t| t.owners[0] = IDLE);
+    not_sound(|t| t.owners[1] = 1);
+    not_sound(|t| t.owners[63] = 1);
+    not_sound(|t| t.entries[0].period = 3);
+    not_sound(|t| t.entries[0].period = 512);
+    not_sound(|t| t.entries[0].period = u16::MAX);
+    not_sound(|t| t.entries[0].period = 1 << 15);
+    not_sound(|t| t.entries[0].bound = 0);
+    not_sound(|t| t.entries[0].bound = 9);
+    not_sound(|t| t.entries[0].bound = 255);
+    not_sound(|t| (t.entries[0].offset, t.entries[0].shortfall) = (4, 0));
+    not_sound(|t| t.entries[0].offset = 255);
+    not_sound(|t| t.entries[0].shortfall = 256);
+    not_sound(|t| t.entries[0].shortfall = u16::MAX);
+    not_sound(|t| t.entries[1].shortfall = 128);
+    not_sound(|t| (t.entries[1].offset, t.entries[2].offset) = (0, 1));
+    not_sound(|t| (t.entries[0].offset, t.entries[2].offset) = (0, 0));
+    not_sound(|t| t.entries[0].period = 0);
+    not_sound(|t| t.entries[3].offset = 1);
+    not_sound(|t| t.entries[3].bound = 1);
+    not_sound(|t| t.entries[31].shortfall = 1);
+}
+
+/// Values at their limits are sound, and one step further they are not.
+#[test]
+fn soundness_at_its_edges() {
+    let mut timetable = Timetable { request_slot: LAST_SLOT, base: LAST_SLOT, ..all_listed() };
+    assert!(timetable.sound());
+    timetable.entries[31] = Entry { period: 32, offset: 31, bound: 1, shortfall: 7 };
+    assert!(timetable.sound());
+    timetable.entries[31].shortfall = 8;
+    assert!(!timetable.sound());
+    timetable.entries[31].bound = 8;
+    timetable.entries[31].shortfall = 2048 - 31 * 8 - 1;
+    assert!(timetable.sound());
+    timetable.owners = [31; 64];
+    (timetable.length, timetable.base) = (64, LAST_SLOT + 64);
+    assert!(timetable.sound());
+    refused(&timetable, &record(LAST_SLOT, 0, &[]), 6, 0, 0);
+    assert_eq!(owner_query(&timetable, LAST_SLOT), (0, 31));
+    assert_eq!(standing_query(&timetable, 31, LAST_SLOT), (6, 0, 0));
+}
+
+/// The owner query in the transition, in the cycle, when idle, and refused.
+#[test]
+fn owner_query_answers_and_refuses() {
+    let b = after_b();
+    let owners = [1, 0, 2, 1, 2, 0, 2, 1, 2, 0];
+    for (slot, owner) in (6..).zip(owners) {
+        assert_eq!(owner_query(&b, slot), (0, owner));
+    }
+    assert_eq!(owner_query(&b, 5), (6, 0));
+    assert_eq!(owner_query(&b, LAST_SLOT + 1), (4, 0));
+    assert_eq!(owner_query(&b, u64::MAX), (4, 0));
+    assert_eq!(owner_query(&Timetable::empty(), 0), (0, IDLE));
+    assert_eq!(owner_query(&Timetable::empty(), LAST_SLOT), (0, IDLE));
+    let a = after_a();
+    assert_eq!([0, 1, 2, 3, 4].map(|slot| owner_query(&a, slot).1), [IDLE, IDLE, 1, 0, IDLE]);
+    assert_eq!(owner_query(&a, LAST_SLOT), (0, 0));
+}
+
+/// From the base on, each step of one period from the offset meets the same owner.
+#[test]
+fn owner_query_agrees_with_stepping() {
+    let b = after_b();
+    for (id, entry) in (0..).zip(&b.entries).filter(|(_, entry)| entry.listed()) {
+        let mut slot = b.base + u64::from(entry.offset);
+        for _ in 0..700 {
+            assert_eq!(owner_query(&b, slot), (0, id));
+            slot += u64::from(entry.period);
+        }
+    }
+}
+
+/// The standing query's shortfalls and slices, and its refusals in their order.
+#[test]
+fn standing_query_answers_and_refuses() {
+    let b = after_b();
+    assert_eq!(standing_query(&b, 0, 7), (0, 192, 0));
+    assert_eq!(standing_query(&b, 0, 8), (0, 0, 1));
+    assert_eq!(standing_query(&b, 2, 8), (0, 256, 0));
+    assert_eq!(standing_query(&b, 2, 9), (0, 128, 1));
+    assert_eq!(standing_query(&b, 1, 7 + 4 * 1000), (0, 64, 1000));
+    assert_eq!(standing_query(&b, 32, 7), (4, 0, 0));
+    assert_eq!(standing_query(&b, 32, 0), (4, 0, 0));
+    assert_eq!(standing_query(&b, 3, LAST_SLOT + 1), (4, 0, 0));
+    assert_eq!(standing_query(&b, 3, 6), (6, 0, 0));
+    assert_eq!(standing_query(&b, 0, 6), (6, 0, 0));
+    assert_eq!(standing_query(&b, 3, 7), (10, 0, 0));
+    assert_eq!(standing_query(&b, 31, LAST_SLOT), (10, 0, 0));
+}
+
+/// Queries and requests near 2^48 are answered without walking there.
+#[test]
+fn far_off_slots() {
+    let b = after_b();
+    assert_eq!(standing_query(&b, 0, LAST_SLOT), (0, 192, (1 << 46) - 2));
+    assert_eq!(standing_query(&b, 1, LAST_SLOT), (0, 64, (1 << 46) - 2));
+    assert_eq!(standing_query(&b, 2, LAST_SLOT), (0, 128, (1 << 47) - 4));
+    let far = accepted(&b, &record(LAST_SLOT - 1, 0, &[(0, 2, 1), (1, 2, 1), (2, 1, 2)]), 1);
+    assert_eq!(far.base, LAST_SLOT - 1);
+}
+
+/// Skipping repeated cycles gives what walking each slot gives.
+#[test]
+fn the_skip_agrees_with_plain_walking() {
+    let mut timetable = Timetable::empty();
+    let mut checked = 0;
+    for request in Generator::new(5, 600) {
+        let outcome = change(&timetable, &request, &mut [0; AREA]);
+        timetable = outcome.timetable;
+        let Some(mut plain) = Walk::from_base(&timetable) else { continue };
+        let start = plain.clone();
+        let mut distance = 0;
+        for further in [0, 1, 255, 256, 257, 300, 511, 512, 900, 1024, 3000] {
+            plain.pass_each(further);
+            distance += further;
+            let mut skipping = start.clone();
+            skipping.pass(distance);
+            assert_eq!(skipping.shortfalls, plain.shortfalls);
+            assert_eq!(skipping.slices, plain.slices);
+            checked += 1;
+        }
+    }
+    assert_eq!(checked, 600 * 11);
+}
+
+/// The lines that the program prints for some input.
+fn lines_of(input: &[u8]) -> String {
+    let mut output = Vec::new();
+    let done = print_lines(&mut &input[..], &mut output);
+    assert!(done.is_ok());
+    String::from_utf8_lossy(&output).into_owned()
+}
+
+/// The lines that document 01 gives for cases A and B; no input gives no line.
+#[test]
+fn lines_of_a_and_b() {
+    let input = [frame(&request_a()), frame(&request_b(1))].concat();
+    assert_eq!(lines_of(&input), "1 0 0 1 0\n2 0 0 2 1\n");
+    assert_eq!(lines_of(&[]), "");
+}
+
+/// The lines of a stream with many of the cases.
+#[test]
+fn lines_of_every_case() {
+    let input = [
+        frame(&request_a()),
+        frame(&request_b(0)),
+        frame(&request_b(1)),
+        frame(&request_d(8, 64)),
+        frame(&request_d(9, 1)),
+        frame(&request_d(9, 64)),
+        frame(&record(6, 0, &[])),
+        frame(&[]),
+        frame(&slot_field(9)),
+        frame(&record(9, 64, &[(0, 0, 1), (31, 8, 1)])),
+        frame(&record(9, 64, &[(1, 8, 1), (1, 8, 1)])),
+    ];
+    let lines = "1 0 0 1 0\n2 9 0 1 0\n3 0 0 2 1\n4 8 2 0 0\n5 9 0 2 0\n6 9 0 3 0\n\
+                 7 6 0 0 0\n8 3 0 0 0\n9 3 11 0 0\n10 7 31 0 0\n11 5 21 0 0\n";
+    assert_eq!(lines_of(&input.concat()), lines);
+}
+
+/// A wrong tag, a longer length or a frame cut off prints `bad frame` and ends it.
+#[test]
+fn bad_frames() {
+    let a = frame(&request_a());
+    let then = |rest: &[u8]| lines_of(&[&a[..], rest].concat());
+    for rest in [&[0x41, 0, 0][..], &[0][..], &[0x40][..], &[0x40, 0][..], &[0x40, 0, 1][..]] {
+        assert_eq!(then(rest), "1 0 0 1 0\nbad frame\n");
+    }
+    for length in [4097usize, 0xffff] {
+        let mut long = vec![0x40, (length >> 8) as u8, length as u8];
+        long.resize(3 + length, 0);
+        assert_eq!(then(&long), "1 0 0 1 0\nbad frame\n");
+    }
+    for end in 1..a.len() {
+        assert_eq!(lines_of(&a[..end]), "bad frame\n");
+    }
+    assert_eq!(then(&[&[0x3f, 0, 0], &a[..]].concat()), "1 0 0 1 0\nbad frame\n");
+    assert_eq!(then(&[0x40, 0, 0]), "1 0 0 1 0\n2 3 0 0 0\n");
+}
+
+/// A frame of 4,096 bytes is read.
+#[test]
+fn the_longest_frame() {
+    let mut longest = request_a();
+    longest.resize(LONGEST_FRAME, 0);
+    let input = [frame(&longest), frame(&request_a())].concat();
+    assert_eq!(input[..3], [0x40, 0x10, 0]);
+    assert_eq!(lines_of(&input), "1 3 27 0 0\n2 0 0 1 0\n");
+    assert_eq!(lines_of(&input[..LONGEST_FRAME + 2]), "bad frame\n");
+}
+
+/// A seed and a count give one stream, whose requests fit into frames.
+#[test]
+fn a_seed_always_gives_the_same_stream() {
+    let stream = |seed| Generator::new(seed, 200).collect::<Vec<_>>();
+    assert_eq!(stream(3), stream(3));
+    assert_ne!(stream(3), stream(4));
+    assert_eq!(Generator::new(3, 0).count(), 0);
+    assert!(stream(3).iter().all(|request| request.len() <= LONGEST_FRAME));
+}
+
+/// Soundness once more, clause by clause in numbers instead of slots.
+fn sound_in_numbers(timetable: &Timetable) -> bool {
+    let length = usize::from(timetable.length);
+    let listed = |id: u8| id < 32 && timetable.entries[usize::from(id)].period > 0;
+    let owner = |(slot, &id): (usize, &u8)| if slot < length { listed(id) } else { id == 0 };
+    let entry = |entry: &Entry| match entry.period {
+        0 => (entry.offset, entry.bound, entry.shortfall) == (0, 0, 0),
+        period if period > 256 || 256 % period != 0 => false,
+        period => {
+            let reached =
+                u32::from(entry.shortfall) + u32::from(entry.offset) * u32::from(256 / period);
+            u16::from(entry.offset) < period
+                && entry.bound <= 8
+                && reached < 256 * u32::from(entry.bound)
+        }
+    };
+    let meet = |one: &Entry, other: &Entry| {
+        one.offset.abs_diff(other.offset) as u16 % one.period.min(other.period) == 0
+    };
+    let shares: Vec<&Entry> = timetable.entries.iter().filter(|entry| entry.period > 0).collect();
+    let pairs = |(at, one): (usize, &&Entry)| shares[..at].iter().all(|other| !meet(one, other));
+    timetable.request_slot < 1 << 48
+        && length <= 64
+        && timetable.base == timetable.request_slot + length as u64
+        && timetable.owners.iter().enumerate().all(owner)
+        && timetable.entries.iter().all(entry)
+        && shares.iter().enumerate().all(pairs)
+}
+
+/// Soundness by slots is soundness in numbers, on timetables reached and then edited.
+#[test]
+fn soundness_by_slots_and_in_numbers() {
+    let mut random = crate::random::Random::new(12);
+    let (mut timetable, mut sound) = (Timetable::empty(), 0);
+    for request in Generator::new(9, 3000) {
+        timetable = change(&timetable, &request, &mut [0; AREA]).timetable;
+        for hostilities in [0, 1, 1, 1, 2] {
+            let mut edited = timetable;
+            for _ in 0..hostilities {
+                hostile(&mut random, &mut edited);
+            }
+            assert_eq!(edited.sound(), sound_in_numbers(&edited));
+            sound += u32::from(edited.sound());
+        }
+    }
+    assert!((3500..14000).contains(&sound), "{sound}");
+}
+
+/// Random bytes and random timetables are answered without a stop; a refusal changes nothing.
+#[test]
+fn any_bytes_and_any_timetable_are_answered() {
+    let mut random = crate::random::Random::new(11);
+    for round in 0..20_000 {
+        let mut timetable = if round % 2 == 0 { after_b() } else { all_listed() };
+        for _ in 0..random.below(3) {
+            hostile(&mut random, &mut timetable);
+        }
+        let mut record = request_b(random.byte());
+        for _ in 0..random.below(3) {
+            let at = random.below(record.len() as u64) as usize;
+            record[at] = random.byte();
+        }
+        let (outcome, _) = answered(&timetable, &record);
+        assert_eq!(outcome.number == 1, !timetable.sound());
+        assert!(outcome.number == 0 || outcome.timetable == timetable);
+        let slot = random.bits() >> random.below(64);
+        assert_eq!(owner_query(&timetable, slot).0 == 1, !timetable.sound());
+        assert_eq!(standing_query(&timetable, random.byte(), slot).0 == 1, !timetable.sound());
+    }
+}
+
+/// One field of a timetable gets any value.
+fn hostile(random: &mut crate::random::Random, timetable: &mut Timetable) {
+    let value = random.bits() >> random.below(64);
+    let entry = &mut timetable.entries[random.below(32) as usize];
+    match random.below(12) {
+        0 => timetable.request_slot = value,
+        1 => timetable.length = value as u8,
+        2 => timetable.base = value,
+        3 => timetable.owners[random.below(64) as usize] = value as u8,
+        4 => entry.period = value as u16,
+        5 => entry.offset = value as u8,
+        6 => entry.bound = value as u8,
+        7 => entry.shortfall = value as u16,
+        8 => entry.shortfall = entry.shortfall.wrapping_add(1),
+        9 => entry.bound = entry.bound.wrapping_sub(1),
+        10 => entry.offset ^= 1 << (value % 8),
+        _ => *entry = Entry { period: 1 << (value % 9), offset: 0, bound: 8, shortfall: 0 },
+    }
+}
+
+/// A stream brings each number that frames can bring, and transitions of every class of length.
+#[test]
+fn the_stream_reaches_every_answer() {
+    let mut timetable = Timetable::empty();
+    let mut numbers = [0; 16];
+    let mut lengths = [0; CYCLE];
+    for request in Generator::new(1, 4000) {
+        let outcome = change(&timetable, &request, &mut [0; AREA]);
+        timetable = outcome.timetable;
+        assert!(timetable.sound());
+        numbers[usize::from(outcome.number)] += 1;
+        if outcome.number == 0 {
+            lengths[usize::from(timetable.length)] += 1;
+        }
+    }
+    assert_eq!(numbers[1] + numbers[2] + numbers[10], 0);
+    assert!(numbers[3..10].iter().all(|&count| count >= 40), "{numbers:?}");
+    let over_8: i32 = lengths[9..].iter().sum();
+    assert!(lengths[0] > 400 && lengths[1] >= 40 && over_8 >= 20, "{lengths:?}");
+}

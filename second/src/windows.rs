@@ -1,0 +1,440 @@
+//! Demand 3 by brute force: runs are recorded slot by slot and all their windows are looked at,
+//! and each length tried is held against a search through all choices of offsets.
+
+use crate::change::{change, listed, Outcome, AREA};
+use crate::generate::Generator;
+use crate::queries::{owner_query, standing_query};
+use crate::random::Random;
+use crate::records::{longest_field, read_request, share_field, slot_field, Request};
+use crate::slots::Shortfalls;
+use crate::timetable::{Listing, Share, Timetable, IDLE, IDS};
+use std::collections::BTreeSet;
+
+/// The slots that an offset choice is walked through from the base on.
+const LOOKED_AT: u64 = 512;
+
+/// One slot of a run: its owner, the listing in force, and where each present listing began.
+#[derive(Clone)]
+struct Slot {
+    owner: u8,
+    listing: Listing,
+    since: [usize; IDS],
+}
+
+/// A run of a controller from the empty timetable, recorded slot by slot up to some slot.
+struct Run {
+    slots: Vec<Slot>,
+    timetable: Timetable,
+    since: [usize; IDS],
+}
+
+impl Run {
+    /// The run of an empty controller before its first slot.
+    fn empty() -> Run {
+        Run { slots: Vec::new(), timetable: Timetable::empty(), since: [0; IDS] }
+    }
+
+    /// The slots before the given one are recorded, as the owner query names their owners.
+    fn record_to(&mut self, end: usize) {
+        for slot in self.slots.len()..end {
+            let (number, owner) = owner_query(&self.timetable, slot as u64);
+            assert_eq!(number, 0);
+            self.slots.push(Slot { owner, listing: self.timetable.listing(), since: self.since });
+        }
+    }
+
+    /// A request is put to the controller; from an accepted one's slot on the run is another.
+    fn put(&mut self, record: &[u8]) -> Outcome {
+        let outcome = change(&self.timetable, record, &mut [0; AREA]);
+        if outcome.number == 0 {
+            let slot = outcome.timetable.request_slot as usize;
+            self.record_to(slot);
+            self.slots.truncate(slot);
+            for id in 0..IDS {
+                if !self.timetable.entries[id].listed() {
+                    self.since[id] = slot;
+                }
+            }
+            self.timetable = outcome.timetable;
+        }
+        outcome
+    }
+
+    /// The shortfall: the largest excess of entitlement over supply in the windows that end there.
+    fn excess(&self, id: usize, end: usize, since: usize) -> i64 {
+        let mut largest = 0;
+        let mut excess = 0;
+        for slot in self.slots[since..end].iter().rev() {
+            excess += slot.listing[id].map_or(0, |share| 256 / i64::from(share.period));
+            excess -= if usize::from(slot.owner) == id { 256 } else { 0 };
+            largest = largest.max(excess);
+        }
+        largest
+    }
+
+    /// In every window within a present listing the supply falls short by less than the bound.
+    fn check_windows(&self) -> u64 {
+        let mut windows = 0;
+        for end in 1..=self.slots.len() {
+            let last = &self.slots[end - 1];
+            for (id, share) in listed(&last.listing) {
+                let (mut supply, mut entitlement) = (0, 0);
+                for start in (last.since[id]..end).rev() {
+                    let slot = &self.slots[start];
+                    let weight = slot.listing[id].map(|share| 256 / i64::from(share.period));
+                    assert!(weight.is_some(), "listed throughout its present listing");
+                    entitlement += weight.unwrap_or(0);
+                    supply += if usize::from(slot.owner) == id { 1 } else { 0 };
+                    assert!(256 * supply + 256 * i64::from(share.bound) > entitlement);
+                    windows += 1;
+                }
+            }
+        }
+        windows
+    }
+}
+
+/// No cyclic slot serves two, and the owner query names the one that a slot serves.
+fn check_cycle(timetable: &Timetable) {
+    for slot in 0..LOOKED_AT {
+        let owners: Vec<u8> = (0..)
+            .zip(&timetable.entries)
+            .filter(|(_, entry)| entry.listed())
+            .filter(|(_, entry)| owns(u16::from(entry.offset), entry.period, slot))
+            .map(|(id, _)| id)
+            .collect();
+        assert!(owners.len() <= 1);
+        let owner = owners.first().copied().unwrap_or(IDLE);
+        assert_eq!(owner_query(timetable, timetable.base + slot), (0, owner));
+    }
+}
+
+/// A slot from the base is owned if steps of one period from the offset reach it.
+fn owns(offset: u16, period: u16, slot: u64) -> bool {
+    let mut own = u64::from(offset);
+    while own < slot {
+        own += u64::from(period);
+    }
+    own == slot
+}
+
+/// An offset bears if the shortfall stays below 256 R in every slot that is looked at.
+fn bears(shortfall: i64, share: Share, offset: u16) -> bool {
+    let (mut shortfall, mut next) = (shortfall, u64::from(offset));
+    for slot in 0..LOOKED_AT {
+        if shortfall >= 256 * i64::from(share.bound) {
+            return false;
+        }
+        shortfall += 256 / i64::from(share.period);
+        if slot == next {
+            shortfall -= 256;
+            next += u64::from(share.period);
+        }
+        shortfall = shortfall.max(0);
+    }
+    shortfall < 256 * i64::from(share.bound)
+}
+
+/// The offsets below its period that a share can have on its own.
+fn bearable(shortfall: i64, share: Share) -> Vec<u16> {
+    (0..share.period).filter(|&offset| bears(shortfall, share, offset)).collect()
+}
+
+/// Some choice of one bearable offset for each share has no slot twice; all choices are tried.
+fn some_choice(choices: &[(u16, Vec<u16>)], taken: &[bool; 256]) -> bool {
+    let Some(((period, offsets), rest)) = choices.split_first() else {
+        return true;
+    };
+    offsets.iter().any(|&offset| {
+        let own = (usize::from(offset)..256).step_by(usize::from(*period));
+        let free = own.clone().all(|slot| !taken[slot]);
+        let mut taken = *taken;
+        own.for_each(|slot| taken[slot] = true);
+        free && some_choice(rest, &taken)
+    })
+}
+
+/// A cyclic placement in the sense of demand 3 exists for the shortfalls reached.
+fn placement_exists(listing: &Listing, shortfalls: &Shortfalls) -> bool {
+    let choices: Vec<(u16, Vec<u16>)> = listed(listing)
+        .map(|(id, share)| (share.period, bearable(shortfalls[id], share)))
+        .collect();
+    some_choice(&choices, &[false; 256])
+}
+
+/// The shortfalls after one slot that goes to an owner, or to nobody.
+fn after_slot(listing: &Listing, shortfalls: &Shortfalls, owner: Option<usize>) -> Shortfalls {
+    let mut after = *shortfalls;
+    for (id, share) in listed(listing) {
+        let supply = if owner == Some(id) { 256 } else { 0 };
+        after[id] = (after[id] + 256 / i64::from(share.period) - supply).max(0);
+    }
+    after
+}
+
+/// Every listed shortfall is below 256 R.
+fn all_bounds_kept(listing: &Listing, shortfalls: &Shortfalls) -> bool {
+    listed(listing).all(|(id, share)| shortfalls[id] < 256 * i64::from(share.bound))
+}
+
+/// The partition with the least room, ties to the lower id; none if the slot is missed.
+fn urgent_or_missed(listing: &Listing, shortfalls: &Shortfalls) -> Option<usize> {
+    let room = |id: usize, share: Share| {
+        (256 * i64::from(share.bound) - 1 - shortfalls[id]) / (256 / i64::from(share.period))
+    };
+    let rooms: Vec<(i64, usize)> =
+        listed(listing).map(|(id, share)| (room(id, share), id)).collect();
+    let missed = rooms.iter().filter(|(room, _)| *room == 0).count() > 1;
+    let somebody = listed(listing).map(|(id, _)| Some(id)).chain([None]);
+    let borne =
+        somebody.filter(|&owner| all_bounds_kept(listing, &after_slot(listing, shortfalls, owner)));
+    assert_eq!(
+        missed,
+        borne.count() == 0,
+        "a slot is missed if whoever gets it some bound is broken"
+    );
+    rooms.iter().min().map(|(_, id)| *id).filter(|_| !missed)
+}
+
+/// What was seen while requests were checked.
+#[derive(Debug)]
+struct Seen {
+    lengths: [u32; 65],
+    refused_8: u32,
+    refused_9: u32,
+    missed: u32,
+    windows: u64,
+}
+
+impl Seen {
+    /// Nothing was seen so far.
+    fn nothing() -> Seen {
+        Seen { lengths: [0; 65], refused_8: 0, refused_9: 0, missed: 0, windows: 0 }
+    }
+}
+
+/// A well-formed request's outcome from stage 8 on is what the definitions give.
+fn check_outcome(run: &Run, request: &Request, outcome: &Outcome, seen: &mut Seen) {
+    let end = request.slot as usize;
+    let mut shortfalls = [0; IDS];
+    for (id, _) in listed(&request.listing) {
+        if run.timetable.entries[id].listed() {
+            shortfalls[id] = run.excess(id, end, run.since[id]);
+            let standing = standing_query(&run.timetable, id as u8, request.slot);
+            assert_eq!((standing.0, i64::from(standing.1)), (0, shortfalls[id]));
+        }
+    }
+    let over = listed(&request.listing)
+        .find(|(id, share)| shortfalls[*id] >= 256 * i64::from(share.bound));
+    if let Some((id, _)) = over {
+        assert_eq!((outcome.number, outcome.place, outcome.tries), (8, id as u64, 0));
+        seen.refused_8 += 1;
+        return;
+    }
+    check_lengths(request, shortfalls, outcome, seen);
+}
+
+/// Each length is passed over exactly if no choice of offsets serves; tries counts the lengths.
+fn check_lengths(request: &Request, at_request: Shortfalls, outcome: &Outcome, seen: &mut Seen) {
+    let mut shortfalls = at_request;
+    for length in 0..=request.longest {
+        if placement_exists(&request.listing, &shortfalls) {
+            check_accepted(request, &shortfalls, length, outcome);
+            seen.lengths[usize::from(length)] += 1;
+            return;
+        }
+        let owner = urgent_or_missed(&request.listing, &shortfalls);
+        if length == request.longest || owner.is_none() {
+            assert_eq!(
+                (outcome.number, outcome.place, outcome.tries),
+                (9, 0, u16::from(length) + 1)
+            );
+            seen.refused_9 += 1;
+            seen.missed += u32::from(length < request.longest);
+            return;
+        }
+        if outcome.number == 0 {
+            assert_eq!(Some(usize::from(outcome.timetable.owners[usize::from(length)])), owner);
+        }
+        shortfalls = after_slot(&request.listing, &shortfalls, owner);
+    }
+}
+
+/// An acceptance has the length, the shortfalls and offsets that bear from the base on.
+fn check_accepted(request: &Request, shortfalls: &Shortfalls, length: u8, outcome: &Outcome) {
+    let timetable = &outcome.timetable;
+    assert_eq!((outcome.number, outcome.place, outcome.tries), (0, 0, u16::from(length) + 1));
+    assert_eq!((timetable.request_slot, timetable.length), (request.slot, length));
+    assert_eq!(timetable.listing(), request.listing);
+    for (id, share) in listed(&request.listing) {
+        let entry = timetable.entries[id];
+        assert_eq!(i64::from(entry.shortfall), shortfalls[id]);
+        assert!(bears(shortfalls[id], share, u16::from(entry.offset)));
+    }
+    assert_eq!(
+        Some(timetable.entries.map(|entry| u16::from(entry.offset))),
+        by_rule_4(&request.listing, shortfalls)
+    );
+    assert!(timetable.sound());
+    check_cycle(timetable);
+}
+
+/// Rule 4 once more, with the set of free slots and the quotient for room.
+fn by_rule_4(listing: &Listing, shortfalls: &Shortfalls) -> Option<[u16; IDS]> {
+    let mut free: BTreeSet<u16> = (0..256).collect();
+    let mut order = BTreeSet::new();
+    for (id, share) in listed(listing) {
+        let room =
+            (256 * i64::from(share.bound) - 1 - shortfalls[id]) * i64::from(share.period) / 256;
+        order.insert((share.period, room.min(i64::from(share.period) - 1), id));
+    }
+    let mut offsets = [0; IDS];
+    for (period, last, id) in order {
+        let own = |offset: u16| (0..256 / period).map(move |turn| offset + turn * period);
+        let fits = free.iter().copied().filter(|&offset| i64::from(offset) <= last);
+        let offset = fits.filter(|&offset| own(offset).all(|slot| free.contains(&slot))).max()?;
+        free.retain(|&slot| !own(offset).any(|taken| taken == slot));
+        offsets[id] = offset;
+    }
+    Some(offsets)
+}
+
+/// A listing of a few ids with short periods, mostly on a full core.
+fn small_listing(random: &mut Random, present: &Listing) -> Listing {
+    let mut listing = if random.chance(2, 3) { *present } else { [None; IDS] };
+    let longest_period = if random.chance(1, 12) { 6 } else { random.between(1, 4) };
+    for _ in 0..random.between(1, 4) {
+        let id = random.pick(&[0, 1, 2, 7, 30, 31]).unwrap_or(0);
+        let share = Share {
+            period: 1 << random.between(0, longest_period),
+            bound: if random.chance(1, 2) { 1 } else { random.between(1, 4) as u8 },
+        };
+        listing[id] = if random.chance(5, 6) { Some(share) } else { None };
+    }
+    let mut free = 256;
+    for place in &mut listing {
+        let weight = place.map_or(0, |share| 256 / i64::from(share.period));
+        if weight > free {
+            *place = None;
+        } else {
+            free -= weight;
+        }
+    }
+    listing
+}
+
+/// A block of ids with one period and R 1, which newcomers then have to break up.
+fn small_block(random: &mut Random) -> Listing {
+    let mut listing = [None; IDS];
+    let k = random.between(2, 4);
+    for id in [1, 2, 7, 30, 31].into_iter().take(1 << (k - 1)) {
+        listing[id] = Some(Share { period: 1 << k, bound: 1 });
+    }
+    listing
+}
+
+/// The record of a request.
+fn record_of(request: &Request) -> Vec<u8> {
+    let mut record = [slot_field(request.slot), longest_field(request.longest)].concat();
+    for (id, share) in listed(&request.listing) {
+        let k = (0..=8).find(|k| share.period == 1 << k).unwrap_or(0);
+        record.extend(share_field(id as u8, k, share.bound, true));
+    }
+    record
+}
+
+/// The present listing with a newcomer that takes the free weight and can bear to wait.
+fn small_newcomer(random: &mut Random, present: &Listing) -> Listing {
+    let mut listing = *present;
+    let used: i64 = listed(present).map(|(_, share)| 256 / i64::from(share.period)).sum();
+    let k = (0..=4).find(|k| used + (256 >> k) <= 256);
+    let id = random.pick(&[0, 3, 8]).unwrap_or(0);
+    if let Some(k) = k.filter(|_| listing[id].is_none()) {
+        listing[id] = Some(Share { period: 1 << k, bound: random.between(1, 4) as u8 });
+    }
+    listing
+}
+
+/// The present listing with every bound lowered.
+fn small_bounds(present: &Listing) -> Listing {
+    present.map(|share| share.map(|share| Share { bound: (share.bound - 1).max(1), ..share }))
+}
+
+/// A request for a run, of one of several shapes.
+fn small_candidate(random: &mut Random, run: &Run) -> Request {
+    let present = run.timetable.listing();
+    let listing = match random.below(10) {
+        0 => small_block(random),
+        1 => small_bounds(&present),
+        2..=5 => small_newcomer(random, &present),
+        _ => small_listing(random, &present),
+    };
+    let most = random.pick(&[0, 3, 17]).unwrap_or(0);
+    let slot = run.timetable.base + random.between(0, most);
+    let longest = random.pick(&[0, 1, 2, 5, 64, 64, 64]).unwrap_or(0);
+    Request { slot, longest, listing }
+}
+
+/// A request for a run: any, or the one of many with the most tries, a refusal 8 counted as two.
+fn small_request(random: &mut Random, run: &Run) -> Request {
+    let mut best = small_candidate(random, run);
+    let mut most = 0;
+    for _ in 0..random.pick(&[0, 30, 30, 30]).unwrap_or(0) {
+        let request = small_candidate(random, run);
+        let outcome = change(&run.timetable, &record_of(&request), &mut [0; AREA]);
+        let tries = if outcome.number == 8 { 2 } else { outcome.tries };
+        if tries > most {
+            (best, most) = (request, tries);
+        }
+    }
+    best
+}
+
+/// A random history is put to a controller, each outcome is checked, then all windows.
+fn check_history(seed: u64, seen: &mut Seen) {
+    let mut random = Random::new(seed);
+    let mut run = Run::empty();
+    for _ in 0..random.between(2, 14) {
+        let request = small_request(&mut random, &run);
+        run.record_to(request.slot as usize);
+        let outcome = change(&run.timetable, &record_of(&request), &mut [0; AREA]);
+        check_outcome(&run, &request, &outcome, seen);
+        assert_eq!(run.put(&record_of(&request)), outcome);
+    }
+    run.record_to(run.timetable.base as usize + 40);
+    seen.windows += run.check_windows();
+}
+
+/// Many histories on small cores, with enough transitions and refusals among them.
+#[test]
+fn histories_on_small_cores() {
+    let mut seen = Seen::nothing();
+    for seed in 0..2500 {
+        check_history(seed, &mut seen);
+    }
+    let longer: u32 = seen.lengths[2..].iter().sum();
+    println!("{seen:?}");
+    assert!(seen.lengths[0] > 1000 && seen.lengths[1] > 300 && longer > 200, "{seen:?}");
+    assert!(seen.refused_8 > 100 && seen.refused_9 > 300 && seen.missed > 50, "{seen:?}");
+}
+
+/// The generator's own streams, with their long transitions, keep all windows of their first slots.
+#[test]
+fn windows_of_generated_streams() {
+    let mut seen = Seen::nothing();
+    for seed in 0..25 {
+        let mut run = Run::empty();
+        for record in Generator::new(seed, 120) {
+            let near = read_request(&record).map_or(true, |request| request.slot < 1500);
+            if near && run.put(&record).number == 0 {
+                seen.lengths[usize::from(run.timetable.length)] += 1;
+                check_cycle(&run.timetable);
+            }
+        }
+        run.record_to(run.timetable.base as usize + 300);
+        seen.windows += run.check_windows();
+    }
+    println!("{seen:?}");
+    let longer: u32 = seen.lengths[9..].iter().sum();
+    assert!(longer > 10 && seen.windows > 1_000_000, "{seen:?}");
+}
