@@ -1,6 +1,6 @@
 -- Every definition that a case computes with: `unfolding rules` opens them all.
 use Rattle.change.specs.Change.{numberOf, placeOf, newTimetable, timetableOf, bytesOf, startPlan, searchOf, answerOf, refuse, answerTo, answer}
-use Rattle.change.specs.Stages.{askedBound, startShortfall, startEntry, startEntries, weightSum, overfull, behind, stageBehind, stageOverfull, stageEarly, stageFields, refusalBefore}
+use Rattle.change.specs.Stages.{askedBound, startEntry, startEntries, weightSum, overfull, behind, stageBehind, stageOverfull, stageEarly, stageFields, refusalBefore}
 use Rattle.frames.specs.Program.{isFrame, frameContent, frameRest, digits, decimal, answeredLength, line, linesFrom, programLines}
 use Rattle.placement.specs.Placement.{demandOf, comesBefore, insert, ordered, isTaken, allFree, lastFree, placeFrom, placement, settle}
 use Rattle.records.specs.Answer.{field, offsetFields, answerRecord}
@@ -9,7 +9,7 @@ use Rattle.slots.specs.Below.{every, first}
 use Rattle.slots.specs.Shortfall.{weightOf, overSlot, keeps, roomOf, lastOffsetOf}
 use Rattle.slots.specs.Slots.{isOwner, own, shortfall}
 use Rattle.timetable.specs.Sound.{requestInRange, lengthInRange, baseAsStated, ownersListed, isPeriod, isBound, entryInRange, entryBlank, entriesInRange, shareNone, noneShared, unusedOwnersZero, isSound}
-use Rattle.timetable.specs.Timetable.{each, cyclic, shortfallAfter, shortfallAt}
+use Rattle.timetable.specs.Timetable.{each, cyclic, shortfallAfter, shortfallAt, startShortfall}
 use Rattle.transition.specs.Transition.{moreUrgent, mostUrgent, isMissed, overAll, longer, ended, passed, placed, searchFrom}
 
 unfoldable pub rules : Unit {0}

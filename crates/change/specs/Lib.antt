@@ -1,4 +1,5 @@
 pub mod Stages
+pub mod Refused
 pub mod Change
 pub mod Queries
 pub mod Controller

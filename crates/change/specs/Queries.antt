@@ -10,9 +10,8 @@ use Rattle.slots.specs.Clocks.{sliceCount}
 use Rattle.slots.specs.declared.CoreSlot.{CoreSlot}
 use Rattle.slots.specs.Limits.{IDS, LAST-SLOT}
 use Rattle.timetable.specs.declared.Timetable.{Timetable}
-use Rattle.timetable.specs.History.{lists}
 use Rattle.timetable.specs.Sound.{isSound}
-use Rattle.timetable.specs.Timetable.{ownerAt, shortfallAt, slicesAt}
+use Rattle.timetable.specs.Timetable.{lists, ownerAt, shortfallAt, slicesAt}
 
 -- The owner, or 255 for idle.
 unfoldable pub ownerNumber : Option ℕ → ℕ

@@ -1,6 +1,6 @@
 -- Document 01, "What each number says": the stages before the search, in their order. The lowest stage wins.
 use lib.Dec.{eqb, ltb}
-use lib.ListN.{getD, replicate}
+use lib.ListN.{replicate}
 use mathlib.Core.Bool.{Bool, cond, not, _&&_}
 use mathlib.Core.List.{List}
 use mathlib.Core.Option.{Option, none, some}
@@ -11,33 +11,24 @@ use Rattle.records.specs.declared.ReadRequest.{ReadRequest}
 use Rattle.records.specs.declared.Refusal.{Refusal}
 use Rattle.records.specs.declared.Request.{Request}
 use Rattle.records.specs.Numbers.{NOT-SOUND, SMALL-AREA, TOO-EARLY, OVERFULL, BEHIND}
-use Rattle.records.specs.Request.{refusal}
+use Rattle.records.specs.Request.{askOf, isAsked, refusal}
 use Rattle.slots.specs.Below.{first}
 use Rattle.slots.specs.declared.CoreSlot.{CoreSlot}
 use Rattle.slots.specs.Limits.{IDS, WHOLE, AREA}
 use Rattle.slots.specs.Shortfall.{keeps}
 use Rattle.timetable.specs.declared.Entry.{Entry}
 use Rattle.timetable.specs.declared.Timetable.{Timetable}
-use Rattle.timetable.specs.History.{lists}
 use Rattle.timetable.specs.Sound.{isSound}
-use Rattle.timetable.specs.Timetable.{noEntry, entryOf, isListed, weight, shortfallAt, each}
-
--- What a request asks for id i.
-abbrev pub askOf : List Ask → ℕ → Ask
-askOf asks i = getD asks i (record { period = 0; bound = 0 })
+use Rattle.timetable.specs.Timetable.{noEntry, entryOf, isListed, weight, startShortfall, each}
 
 -- The bound that is asked: R, or 1 where the field was short.
 unfoldable pub askedBound : Ask → ℕ
 askedBound a = cond (eqb (a .bound) 0) 1 (a .bound)
 
--- The shortfall of id i at the request slot: a newly listed partition starts at 0.
-unfoldable pub startShortfall : Timetable → CoreSlot → ℕ → ℕ
-startShortfall t slot i = cond (lists t i) (shortfallAt t i slot) 0
-
 -- The entry of id i at the request slot: the new weight and R are in force from there on; one that is not asked for is forgotten.
 unfoldable pub startEntry : Timetable → CoreSlot → ℕ → Ask → Entry
 startEntry t slot i ask =
-    cond (ltb 0 (ask .period))
+    cond (isAsked ask)
     (record { period = ask .period; offset = 0; bound = askedBound ask; shortfall = startShortfall t slot i })
     noEntry
 

@@ -1,3 +1,4 @@
 pub mod Numbers
 pub mod Request
 pub mod Answer
+pub mod Written

@@ -87,9 +87,21 @@ listedField s at floor =
     (cond (isListing s at) (listedAs s at floor 0 (at + 5)) (listed-refused (refusal OUT-OF-RANGE at)))
     (listed-refused (refusal BAD-FIELD at)))
 
+-- What is asked for an id that is not listed.
+abbrev pub noAsk : Ask
+noAsk = record { period = 0; bound = 0 }
+
+-- What a request asks for id i.
+abbrev pub askOf : List Ask → ℕ → Ask
+askOf asks i = getD asks i noAsk
+
+-- An id is listed in a request if it asks a period for it.
+abbrev pub isAsked : Ask → Bool
+isAsked a = ltb 0 (a .period)
+
 -- A listing that asks for nothing.
 abbrev pub noAsks : List Ask
-noAsks = replicate IDS (record { period = 0; bound = 0 })
+noAsks = replicate IDS noAsk
 
 -- The tag 3 fields from a place to the end of the record, ids from `floor` on. (At most `most` of them: as many as the record has bytes are enough.)
 unfoldable pub readListing : ℕ → List ℕ → ℕ → ℕ → List Ask → Listing

@@ -5,8 +5,8 @@ use mathlib.Core.Option.{Option, none, some}
 use mathlib.Core.Path.{_≡_, refl, sym, ap, ap₂, _∙_, subst}
 use native.Mathlib.Decide.{ℕ-discrete}
 use native.Mathlib.Omega.{arith}
-use Prim.Native.Nat.{ℕ, zero, suc, _≤_, _<_}
-use Rattle.slots.specs.Below.{every, first}
+use Prim.Native.Nat.{ℕ, zero, suc, _+_, _≤_, _<_}
+use Rattle.slots.specs.Below.{every, first, count}
 
 -- Both parts of a test that passes.
 pub and-both : (a b : Bool) → a && b ≡ true → (a ≡ true) × (b ≡ true)
@@ -96,3 +96,18 @@ module _ (test : ℕ → Bool) where
           let b : ¬ (j < i) = λ q. true-false (k .1) (l j q) in
           let z : j ≡ i = omega arith in
           e ∙ ap (λ (x : ℕ). some x) z
+
+  -- Where the first k numbers pass and no later one does, k numbers pass.
+  pub count-first : (k n : ℕ) → k ≤ n → ((m : ℕ) → m < k → test m ≡ true) → ((m : ℕ) → k ≤ m → m < n → test m ≡ false) → count n test ≡ k
+  unfolding count
+  count-first k zero h p q = omega arith
+  count-first k (suc n) h p q = at (ℕ-discrete k (suc n)) (λ l. count-first k n l p (λ m a b. q m a (omega arith))) (count-all n)
+    where
+      count-all : (n : ℕ) → ((m : ℕ) → m < n → test m ≡ true) → count n test ≡ n
+      count-all zero f = refl
+      count-all (suc n) f = rw (count-all n (λ m l. f m (omega arith)), f n (omega arith)) (omega arith)
+
+      at : Dec (k ≡ suc n) → (k ≤ n → count n test ≡ k) → (((m : ℕ) → m < n → test m ≡ true) → count n test ≡ n)
+          → count n test + cond (test n) 1 0 ≡ k
+      at (yes e) f g = rw (g (λ m l. p m (omega arith)), p n (omega arith)) (omega arith)
+      at (no e) f g = rw (f (omega arith), q n (omega arith) (omega arith)) (omega arith)

@@ -9,7 +9,7 @@ use native.Mathlib.Omega.{arith}
 use Prim.Native.Nat.{ℕ, zero, suc, _+_, _-_, _*_, _≤_, _<_}
 use Rattle.slots.specs.Limits.{WHOLE}
 use Rattle.slots.specs.Shortfall.{overSlot}
-use Rattle.slots.specs.Slots.{Run, Slot, own, one, entitlement, supply, shortfall, shortfallOver, Since, KeepsBound}
+use Rattle.slots.specs.Slots.{Run, isOwner, own, one, entitlement, supply, shortfall, shortfallOver, Since, KeepsBound}
 
 -- One slot loses nothing: what was owed is paid by the slot or still owed.
 pub over-le : (b : Bool) (w s : ℕ) → s + w ≤ WHOLE * one b + overSlot b w s
@@ -22,6 +22,23 @@ pub over-zero : (b : Bool) (w s : ℕ) → s + w ≢ WHOLE * one b + overSlot b 
 unfolding one overSlot
 over-zero true w s n = omega arith
 over-zero false w s n = omega arith
+
+-- Two runs that agree up to a slot have the same shortfalls there.
+pub shortfall-agree : (i : ℕ) (a b : Run) (t : ℕ) → ((x : ℕ) → x ≤ t → a x ≡ b x) → shortfall a i t ≡ shortfall b i t
+unfolding shortfall own
+shortfall-agree i a b zero h = refl
+shortfall-agree i a b (suc t) h =
+    let k = shortfall-agree i a b t (λ x l. h x (omega arith)) in
+    let e = h t (omega arith) in
+    let f = h (suc t) (omega arith) in
+    λ j. cond (f j .newly i) 0 (overSlot (isOwner i (e j .owner)) (e j .weight i) (k j))
+
+pub over-agree : (i : ℕ) (a b : Run) (t : ℕ) → ((x : ℕ) → x ≤ t → a x ≡ b x) → shortfallOver a i t ≡ shortfallOver b i t
+unfolding shortfallOver own
+over-agree i a b t h =
+    let k = shortfall-agree i a b t h in
+    let e = h t (omega arith) in
+    λ j. overSlot (isOwner i (e j .owner)) (e j .weight i) (k j)
 
 module _ (run : Run) (i : ℕ) where
   -- The shortfall at a slot where i is not newly listed is the one at the end of the slot before.

@@ -1,7 +1,7 @@
 -- Questions about the numbers below a number: ids, slots of a cycle, places of a list.
 use mathlib.Core.Bool.{Bool, true, false, cond, _&&_}
 use mathlib.Core.Option.{Option, none, some}
-use Prim.Native.Nat.{ℕ, zero, suc}
+use Prim.Native.Nat.{ℕ, zero, suc, _+_}
 
 -- The test passes for every number below n.
 unfoldable pub every : ℕ → (ℕ → Bool) → Bool
@@ -12,3 +12,8 @@ every (suc n) test = every n test && test n
 unfoldable pub first : ℕ → (ℕ → Bool) → Option ℕ
 first zero test = none
 first (suc n) test = elim (first n test) [ none ↦ cond (test n) (some n) none | some i ↦ some i ]
+
+-- How many numbers below n pass the test.
+unfoldable pub count : ℕ → (ℕ → Bool) → ℕ
+count zero test = 0
+count (suc n) test = count n test + cond (test n) 1 0

@@ -3,3 +3,5 @@ pub mod Ranges
 pub mod Cycle
 pub mod Meet
 pub mod Sound
+pub mod Owner
+pub mod Run

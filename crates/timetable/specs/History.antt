@@ -6,7 +6,7 @@ use Prim.Native.Nat.{ℕ}
 use Rattle.slots.specs.Clocks.{coreSlot}
 use Rattle.slots.specs.Slots.{Run}
 use Rattle.timetable.specs.declared.Timetable.{Timetable}
-use Rattle.timetable.specs.Timetable.{emptyTimetable, entryOf, isListed, weight, ownerAt}
+use Rattle.timetable.specs.Timetable.{emptyTimetable, entryOf, lists, weight, ownerAt}
 
 -- The timetables accepted so far, the last one first.
 abbrev pub History : Type 0
@@ -21,10 +21,6 @@ present (t ∷ h) = t
 unfoldable pub inForce : History → ℕ → Timetable
 inForce [] x = emptyTimetable
 inForce (t ∷ h) x = cond (leb (t .request .0) x) t (inForce h x)
-
--- Whether a timetable lists id i.
-abbrev pub lists : Timetable → ℕ → Bool
-lists t i = isListed (entryOf (t .entries) i)
 
 -- Id i is newly listed at slot x: a timetable accepted for slot x lists it, and the one before did not, or had it newly listed at x itself.
 -- (Several requests may come in one slot: an id that left and returned in it is newly listed there.)

@@ -62,6 +62,10 @@ room e = roomOf (e .period) (e .bound) (e .shortfall)
 abbrev pub lastOffset : Entry → ℕ
 lastOffset e = lastOffsetOf (e .period) (e .bound) (e .shortfall)
 
+-- Whether a timetable lists id i.
+abbrev pub lists : Timetable → ℕ → Bool
+lists t i = isListed (entryOf (t .entries) i)
+
 -- A listed partition has the slots base + offset + a multiple of its period: here the slot n slots after the base.
 unfoldable pub cyclic : Entry → ℕ → Bool
 cyclic e n = isListed e && eqb (n % e .period) (e .offset)
@@ -70,7 +74,7 @@ cyclic e n = isListed e && eqb (n % e .period) (e .offset)
 unfoldable pub serves : Timetable → CoreSlot → ℕ → Bool
 serves t x i =
     cond (ltb (x .0) (t .base .0))
-    (eqb (getD (t .owners) (x .0 - t .request .0) 0) i)
+    (eqb i (getD (t .owners) (x .0 - t .request .0) 0))
     (cyclic (entryOf (t .entries) i) (x .0 - t .base .0))
 
 -- The owner of slot x, from the request slot on: the id that it serves, or none.
@@ -94,3 +98,13 @@ shortfallAt t i x = shortfallAfter (entryOf (t .entries) i) (x .0 - t .base .0)
 -- The slices that id i has had from the base up to the start of slot x.
 unfoldable pub slicesAt : Timetable → ℕ → CoreSlot → SliceCount
 slicesAt t i x = sliceCount (slicesAfter (entryOf (t .entries) i) (x .0 - t .base .0))
+
+-- The shortfall with which id i enters a change at slot x: a newly listed partition starts at 0.
+unfoldable pub startShortfall : Timetable → CoreSlot → ℕ → ℕ
+startShortfall t x i = cond (lists t i) (shortfallAt t i x) 0
+
+-- The shortfall of id i, at a weight, after n transition slots of these owners, from its shortfall at the request slot.
+unfoldable pub transitionShortfall : List ℕ → ℕ → ℕ → ℕ → ℕ → ℕ
+transitionShortfall owners i weight start zero = start
+transitionShortfall owners i weight start (suc n) =
+    overSlot (eqb i (getD owners n 0)) weight (transitionShortfall owners i weight start n)

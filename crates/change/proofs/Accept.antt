@@ -1,0 +1,175 @@
+-- An accepted change continues the timetable before it: its plan was reached slot by slot with every bound kept, and then placed. Assumes nothing.
+use lib.ListN.{getD, length, List·getD-eq-default}
+use mathlib.Core.Bool.{Bool, true, false}
+use mathlib.Core.List.{List}
+use mathlib.Core.Option.{Option, none, some}
+use mathlib.Core.Path.{_≡_, refl, sym, ap, ap₂, _∙_, subst}
+use native.Mathlib.Decide.{ℕ-discrete, decLt}
+use native.Mathlib.Nat.{zero-add}
+use native.Mathlib.Omega.{arith}
+use Prim.Native.Nat.{ℕ, zero, suc, _+_, _-_, _*_, _≤_, _<_}
+use Rattle.change.proofs.Stages.{stages}
+use Rattle.change.proofs.Start.{start-fit, start-listed}
+use Rattle.change.specs.Change.{Answer, numberOf, newTimetable, timetableOf, startPlan, searchOf, answerOf, refuse, answerTo, answer}
+use Rattle.change.specs.Refused.{IsBehind, Refuses, not-sound, small-area, bad-field, too-early, overfull, behind, passes}
+use Rattle.change.specs.Stages.{startEntries, refusalBefore}
+use Rattle.placement.proofs.Complete.{settle-entry, settle-ranged, settle-apart, settle-unlisted}
+use Rattle.placement.proofs.Settle.{length-settle}
+use Rattle.placement.specs.Placement.{Place, placement, settle}
+use Rattle.records.proofs.ReadLaws.{RequestRange, read-in-range, refused-in-range}
+use Rattle.records.specs.declared.ReadRequest.{ReadRequest}
+use Rattle.records.specs.declared.Refusal.{Refusal}
+use Rattle.records.specs.declared.Request.{Request}
+use Rattle.records.specs.Numbers.{ACCEPTED}
+use Rattle.records.specs.Request.{readRequest}
+use Rattle.slots.proofs.Below.{true-false}
+use Rattle.slots.specs.Limits.{IDS, LONGEST, WHOLE}
+use Rattle.timetable.proofs.Ranges.{InRange}
+use Rattle.timetable.proofs.Run.{Continues}
+use Rattle.timetable.proofs.Sound.{Sound}
+use Rattle.timetable.specs.declared.Entry.{Entry}
+use Rattle.timetable.specs.declared.Timetable.{Timetable}
+use Rattle.timetable.specs.Timetable.{noEntry, entryOf, isListed, lists, weight, withOffset, withShortfall, startShortfall, transitionShortfall}
+use Rattle.transition.proofs.Plans.{Fit}
+use Rattle.transition.proofs.Reach.{reach-fit}
+use Rattle.transition.proofs.Search.{PassedFirst, Ended, found, missed, exhausted, search-ends}
+use Rattle.transition.proofs.Walk.{walk-agree, owners-stay, walked}
+use Rattle.transition.specs.declared.Ending.the-variants.{Found, Missed, Exhausted}
+use Rattle.transition.specs.declared.Plan.{Plan}
+use Rattle.transition.specs.declared.Searched.{Searched}
+use Rattle.transition.specs.Reach.{reach}
+use Rattle.transition.specs.Transition.{placed, searchFrom}
+
+-- A listed entry stands at an id.
+listed-below : (es : List Entry) → length es ≡ IDS → (u : ℕ) → isListed (entryOf es u) ≡ true → u < IDS
+listed-below es len u l = at (decLt u IDS)
+  where
+    at : Dec (u < IDS) → u < IDS
+    at (yes k) = k
+    at (no k) = absurd (true-false l (ap isListed (List·getD-eq-default es noEntry {n = u} (omega (arith, len)))))
+
+module _ (t : Timetable) (r : Request) (q : RequestRange r) (later : t .base .0 ≤ r .slot .0)
+    (fine : (i : ℕ) → i < IDS → IsBehind (startEntries t (r .slot) (r .asks)) i → ⊥)
+    (k : ℕ) (kl : k ≤ r .limit) (before : PassedFirst k 0 (startPlan t r))
+    (p : Plan) (here : reach (startPlan t r) k ≡ some p) (ps : List Place) (rule4 : placement (p .entries) ≡ some ps) where
+  plan : Plan
+  plan = startPlan t r
+
+  fit : Fit 0 plan
+  unfolding plan
+  fit = start-fit t r q fine
+
+  -- The new timetable.
+  new : Timetable
+  new = newTimetable r k (placed p ps)
+
+  small : k ≤ LONGEST
+  small = omega (arith, q .limit)
+
+  -- Each length on the way, with its plan.
+  on-the-way : (n : ℕ) → n ≤ k → (x : Plan) × (reach plan n ≡ some x)
+  unfolding plan
+  on-the-way n l = at (ℕ-discrete n k)
+    where
+      at : Dec (n ≡ k) → (x : Plan) × (reach plan n ≡ some x)
+      at (yes e) = (p, ap (reach plan) e ∙ here)
+      at (no e) = let w = before n (omega arith) in (w .0, w .1)
+
+  fit-at : (n : ℕ) → n ≤ k → (x : Plan) → reach plan n ≡ some x → Fit n x
+  fit-at n l x e = subst (λ (m : ℕ). Fit m x) (zero-add n) (reach-fit n 0 plan x fit (omega (arith, small)) e)
+
+  at-k : Fit k p
+  unfolding plan
+  at-k = fit-at k (omega arith) p here
+
+  settled-listed : (i : ℕ) → i < IDS → isListed (entryOf (settle (p .entries) ps) i) ≡ isListed (entryOf (p .entries) i)
+  settled-listed i l = at (isListed (entryOf (p .entries) i)) refl
+    where
+      at : (b : Bool) → isListed (entryOf (p .entries) i) ≡ b → isListed (entryOf (settle (p .entries) ps) i) ≡ b
+      at true e = ap isListed (settle-entry (p .entries) (at-k .ranged) (at-k .entries) ps rule4 i l e) ∙ e
+      at false e = ap isListed (settle-unlisted (p .entries) (at-k .ranged) (at-k .entries) ps rule4 i l e) ∙ e
+
+  new-sound : Sound new
+  unfolding new newTimetable placed
+  new-sound = record {
+    request = q .slot;
+    size = small;
+    base = refl;
+    owners = λ n l.
+        let u : ℕ = getD (p .owners) n 0 in
+        let s = at-k .served n l in
+        settled-listed u (listed-below (p .entries) (at-k .entries) u s) ∙ s;
+    ranged = settle-ranged (p .entries) (at-k .ranged) (at-k .entries) ps rule4;
+    apart = settle-apart (p .entries) (at-k .ranged) (at-k .entries) ps rule4;
+    unused = λ n _ l. at-k .unused n l;
+  }
+
+  module _ (i : ℕ) (ik : i < IDS) (il : isListed (entryOf (settle (p .entries) ps) i) ≡ true) where
+    s : Entry
+    s = entryOf (plan .entries) i
+
+    -- The walk of id i over the transition's owners.
+    walk : ℕ → ℕ
+    walk n = transitionShortfall (p .owners) i (weight s) (s .shortfall) n
+
+    walks : (n : ℕ) → n ≤ k → (x : Plan) → reach plan n ≡ some x → entryOf (x .entries) i ≡ withShortfall (walk n) s
+    unfolding walk plan s
+    walks n l x e =
+        let w = walked plan fit n (omega (arith, small)) x e i ik in
+        let j : ℕ = k - n in
+        let z : reach plan (n + j) ≡ some p = ap (reach plan) (omega arith) ∙ here in
+        w
+        ∙ ap (λ (y : ℕ). withShortfall y s)
+        (walk-agree (x .owners) (p .owners) i (weight s) (s .shortfall) n (λ m h. sym (owners-stay plan fit n j x p e z m h)))
+
+    -- The settled entry is the one reached, at its offset.
+    settled : entryOf (settle (p .entries) ps) i ≡ withOffset (entryOf (settle (p .entries) ps) i .offset) (withShortfall (walk k) s)
+    unfolding plan
+    settled =
+        settle-entry (p .entries) (at-k .ranged) (at-k .entries) ps rule4 i ik (sym (settled-listed i ik) ∙ il)
+        ∙ ap (withOffset (entryOf (settle (p .entries) ps) i .offset)) (walks k (omega arith) p here)
+
+    -- It starts with the shortfall at the request slot.
+    starts : s .shortfall ≡ startShortfall t (r .slot) i
+    unfolding s plan startPlan
+    starts =
+        let l : isListed (entryOf (startEntries t (r .slot) (r .asks)) i) ≡ true =
+        sym (ap isListed settled) ∙ il in
+        ap (λ (e : Entry). e .shortfall) (start-listed t (r .slot) (r .asks) i ik l .1)
+
+    bears : (n : ℕ) → n ≤ k → walk n < WHOLE * s .bound
+    bears n l =
+        let w = on-the-way n l in
+        let f = fit-at n l (w .0) (w .1) in
+        let e = walks n l (w .0) (w .1) in
+        let li : isListed (entryOf (w .0 .entries) i) ≡ true = ap isListed e ∙ sym (ap isListed settled) ∙ il in
+        let g : InRange (withShortfall (walk n) s) = subst InRange e (f .ranged .listed i ik li) in
+        omega (arith, g .kept)
+
+    arrives : walk k ≡ entryOf (settle (p .entries) ps) i .shortfall
+    arrives = sym (ap (λ (e : Entry). e .shortfall) settled)
+
+  new-kept : (i : ℕ) → i < IDS → lists new i ≡ true → (n : ℕ) → n ≤ k
+      → transitionShortfall (new .owners) i (weight (entryOf (new .entries) i)) (startShortfall t (new .request) i) n
+      < WHOLE * entryOf (new .entries) i .bound
+  unfolding new newTimetable placed walk
+  new-kept i ik il n l =
+      subst (λ (e : Entry). transitionShortfall (p .owners) i (weight e) (startShortfall t (r .slot) i) n < WHOLE * e .bound) (sym (settled i ik il))
+      (subst (λ (x : ℕ). transitionShortfall (p .owners) i (weight (s i ik il)) x n < WHOLE * s i ik il .bound) (starts i ik il) (bears i ik il n l))
+
+  new-arrives : (i : ℕ) → i < IDS → lists new i ≡ true
+      → transitionShortfall (new .owners) i (weight (entryOf (new .entries) i)) (startShortfall t (new .request) i) k ≡ entryOf (new .entries) i .shortfall
+  unfolding new newTimetable placed walk
+  new-arrives i ik il =
+      ap₂ (λ (w x : ℕ). transitionShortfall (p .owners) i w x k) (ap weight (settled i ik il)) (sym (starts i ik il)) ∙ arrives i ik il
+
+  -- The new timetable continues the one before.
+  pub found-continues : Continues t (newTimetable r k (placed p ps))
+  unfolding new newTimetable placed
+  found-continues = record {
+    sound = new-sound;
+    shape = length-settle (p .entries) ps ∙ at-k .entries;
+    later = later;
+    kept = new-kept;
+    arrives = new-arrives;
+  }

@@ -1,0 +1,26 @@
+-- A controller's history is valid: each accepted timetable continues the one before. By induction on the requests. Assumes nothing.
+use borrow.Author.Tests.{eqb-true}
+use lib.Dec.{eqb}
+use mathlib.Core.Bool.{Bool, true, false, cond}
+use mathlib.Core.List.{List, [], _∷_}
+use mathlib.Core.Path.{_≡_, refl}
+use Rattle.change.proofs.Answers.{accepted-continues}
+use Rattle.change.specs.Change.{answer}
+use Rattle.change.specs.Controller.{Sent, send, historyOf}
+use Rattle.records.specs.Numbers.{ACCEPTED}
+use Rattle.timetable.proofs.Run.{Valid}
+use Rattle.timetable.specs.History.{History, present}
+
+pub history-valid : (qs : List Sent) → Valid (historyOf qs)
+unfolding historyOf send
+history-valid [] = tt
+history-valid (q ∷ qs) =
+    at (eqb (answer (present (historyOf qs)) (q .bytes) (q .area) .number) ACCEPTED) refl (history-valid qs)
+  where
+    h : History
+    h = historyOf qs
+
+    at : (b : Bool) → eqb (answer (present h) (q .bytes) (q .area) .number) ACCEPTED ≡ b → Valid h
+        → Valid (cond b (answer (present h) (q .bytes) (q .area) .timetable ∷ h) h)
+    at true e v = (accepted-continues (present h) (q .bytes) (q .area) (eqb-true _ _ e), v)
+    at false e v = v

@@ -1,0 +1,132 @@
+-- The plan of length 0 of a request that passed the stages is fit: what was read is in range, and nobody is behind. Assumes nothing.
+use borrow.Author.Tests.{lt-ltb, le-ltb, eq-eqb, ne-eqb, ltb-true, ltb-false, eqb-true, eqb-false}
+use lib.Dec.{eqb, ltb}
+use lib.ListN.{getD, length, replicate, length-replicate, getD-replicate, List·getD-eq-default}
+use mathlib.Core.Bool.{Bool, true, false, cond}
+use mathlib.Core.List.{List}
+use mathlib.Core.Logic.{_⊎_, inl, inr}
+use mathlib.Core.Path.{_≡_, refl, sym, ap, _∙_, subst}
+use native.Mathlib.Decide.{ℕ-discrete, decLt}
+use native.Mathlib.Omega.{arith}
+use Prim.Native.Nat.{ℕ, suc, _+_, _*_, _≤_, _<_}
+use Rattle.change.specs.Change.{startPlan}
+use Rattle.change.specs.Refused.{IsBehind}
+use Rattle.change.specs.Stages.{askedBound, startEntry, startEntries}
+use Rattle.records.proofs.ReadLaws.{AskRange, AsksRange, RequestRange}
+use Rattle.records.specs.declared.Ask.{Ask}
+use Rattle.records.specs.declared.Request.{Request}
+use Rattle.records.specs.Request.{askOf}
+use Rattle.slots.proofs.Below.{true-false}
+use Rattle.slots.specs.declared.CoreSlot.{CoreSlot}
+use Rattle.slots.specs.Limits.{IDS, LONGEST, WHOLE, LARGEST-BOUND}
+use Rattle.timetable.proofs.Entries.{length-each, each-at}
+use Rattle.timetable.proofs.Ranges.{Period, InRange, period-pos}
+use Rattle.timetable.proofs.Sound.{Ranged}
+use Rattle.timetable.specs.declared.Entry.{Entry}
+use Rattle.timetable.specs.declared.Timetable.{Timetable}
+use Rattle.timetable.specs.Timetable.{noEntry, entryOf, isListed, weight, startShortfall}
+use Rattle.transition.proofs.Plans.{Fit}
+
+-- The entry with which an asked id starts.
+abbrev pub asked : Timetable → CoreSlot → ℕ → Ask → Entry
+asked t slot i a = record { period = a .period; offset = 0; bound = askedBound a; shortfall = startShortfall t slot i }
+
+module _ (t : Timetable) (slot : CoreSlot) (asks : List Ask) where
+  pub length-start : length (startEntries t slot asks) ≡ IDS
+  unfolding startEntries
+  length-start = length-each _ IDS (replicate IDS noEntry) ∙ length-replicate IDS noEntry
+
+  pub start-at : (i : ℕ) → i < IDS → entryOf (startEntries t slot asks) i ≡ startEntry t slot i (askOf asks i)
+  unfolding startEntries
+  start-at i k = each-at (λ i e. startEntry t slot i (askOf asks i)) IDS (replicate IDS noEntry) (omega (arith, length-replicate IDS noEntry)) i k
+
+  -- An id that starts listed was asked for.
+  pub start-listed : (i : ℕ) → i < IDS → isListed (entryOf (startEntries t slot asks) i) ≡ true
+      → (0 < askOf asks i .period) × (entryOf (startEntries t slot asks) i ≡ asked t slot i (askOf asks i))
+  unfolding startEntry
+  start-listed i k l = at (ltb 0 (askOf asks i .period)) refl
+    where
+      at : (b : Bool) → ltb 0 (askOf asks i .period) ≡ b
+          → (0 < askOf asks i .period) × (entryOf (startEntries t slot asks) i ≡ asked t slot i (askOf asks i))
+      at true e = (ltb-true 0 (askOf asks i .period) e, start-at i k ∙ ap (λ (b : Bool). cond b (asked t slot i (askOf asks i)) noEntry) e)
+      at false e =
+          absurd (true-false l (ap isListed (start-at i k ∙ ap (λ (b : Bool). cond b (asked t slot i (askOf asks i)) noEntry) e)))
+
+  -- An id that does not is blank.
+  start-blank : (i : ℕ) → i < IDS → isListed (entryOf (startEntries t slot asks) i) ≡ false → entryOf (startEntries t slot asks) i ≡ noEntry
+  unfolding startEntry
+  start-blank i k l = at (ltb 0 (askOf asks i .period)) refl
+    where
+      at : (b : Bool) → ltb 0 (askOf asks i .period) ≡ b → entryOf (startEntries t slot asks) i ≡ noEntry
+      at true e =
+          absurd (true-false (e) (sym (ap isListed (start-at i k ∙ ap (λ (b : Bool). cond b (asked t slot i (askOf asks i)) noEntry) e)) ∙ l))
+      at false e = start-at i k ∙ ap (λ (b : Bool). cond b (asked t slot i (askOf asks i)) noEntry) e
+
+  -- A bound that is asked is from 1 to 8.
+  bound-range : (a : Ask) → a .bound ≤ LARGEST-BOUND → (0 < askedBound a) × (askedBound a ≤ LARGEST-BOUND)
+  unfolding askedBound
+  bound-range a h = at (ℕ-discrete (a .bound) 0)
+    where
+      at : Dec (a .bound ≡ 0) → (0 < cond (eqb (a .bound) 0) 1 (a .bound)) × (cond (eqb (a .bound) 0) 1 (a .bound) ≤ LARGEST-BOUND)
+      at (yes e) = rw (eq-eqb (a .bound) 0 e) (omega arith)
+      at (no e) = rw (ne-eqb (a .bound) 0 e) (omega arith)
+
+  -- Where nobody is behind, the entries are in range.
+  pub start-ranged : AsksRange asks → ((i : ℕ) → i < IDS → IsBehind (startEntries t slot asks) i → ⊥) → Ranged (startEntries t slot asks)
+  start-ranged r n = record { listed = listed; blank = start-blank }
+    where
+      es : List Entry
+      es = startEntries t slot asks
+
+      period : (a : Ask) → 0 < a .period → AskRange a → Period (a .period) × (a .bound ≤ LARGEST-BOUND)
+      period a p (inl z) = absurd (omega (arith, z .0))
+      period a p (inr z) = z
+
+      listed : (i : ℕ) → i < IDS → isListed (entryOf es i) ≡ true → InRange (entryOf es i)
+      listed i k l =
+          let w = start-listed i k l in
+          let a : Ask = askOf asks i in
+          let p = period a (w .0) (r .each i k) in
+          let b = bound-range a (p .1) in
+          let fine : entryOf es i .shortfall < WHOLE * entryOf es i .bound = at (decLt (entryOf es i .shortfall) (WHOLE * entryOf es i .bound)) in
+          subst InRange (sym (w .1))
+          (record {
+            period = p .0;
+            bound-low = b .0;
+            bound-high = b .1;
+            inside = period-pos (a .period) (p .0);
+            kept = subst (λ (e : Entry). e .shortfall + 0 * weight e < WHOLE * e .bound) (w .1) (omega arith);
+          })
+        where
+          at : Dec (entryOf es i .shortfall < WHOLE * entryOf es i .bound) → entryOf es i .shortfall < WHOLE * entryOf es i .bound
+          at (yes h) = h
+          at (no h) = absurd (n i k (l, omega arith))
+
+-- Every place of a list of zeros holds 0.
+zeros : (n k : ℕ) → _≡_ {A = ℕ} (getD (replicate n 0) k 0) 0
+zeros n k = at (decLt k n)
+  where
+    at : Dec (k < n) → _≡_ {A = ℕ} (getD (replicate n 0) k 0) 0
+    at (yes h) = getD-replicate {A = ℕ} n k 0 0 h
+    at (no h) = List·getD-eq-default {A = ℕ} (replicate n 0) 0 {n = k} (omega (arith, length-replicate {A = ℕ} n 0))
+
+-- The plan of length 0 is fit.
+pub start-fit : (t : Timetable) (r : Request) → RequestRange r → ((i : ℕ) → i < IDS → IsBehind (startEntries t (r .slot) (r .asks)) i → ⊥)
+    → Fit 0 (startPlan t r)
+unfolding startPlan
+start-fit t r q n = record {
+  entries = length-start t (r .slot) (r .asks);
+  places = length-replicate {A = ℕ} LONGEST 0;
+  ranged = ranged;
+  unplaced = λ i k. at i k (isListed (entryOf (startEntries t (r .slot) (r .asks)) i)) refl;
+  served = λ k h. absurd (omega arith);
+  unused = λ k h. zeros LONGEST k;
+}
+  where
+    ranged : Ranged (startEntries t (r .slot) (r .asks))
+    ranged = start-ranged t (r .slot) (r .asks) (q .asks) n
+
+    at : (i : ℕ) → i < IDS → (b : Bool) → isListed (entryOf (startEntries t (r .slot) (r .asks)) i) ≡ b
+        → entryOf (startEntries t (r .slot) (r .asks)) i .offset ≡ 0
+    at i k true l = ap (λ (e : Entry). e .offset) (start-listed t (r .slot) (r .asks) i k l .1)
+    at i k false l = ap (λ (e : Entry). e .offset) (ranged .blank i k l)

@@ -1,0 +1,137 @@
+-- What is read is in range, and what is refused has a number from 3 to 5 and a place in the record: every field says so. Assumes nothing.
+use lib.ListN.{getD, length, length-set, replicate, set}
+use lib.Seq.{getD-set-same, getD-set-other}
+use mathlib.Core.List.{List}
+use mathlib.Core.Logic.{_⊎_, inl, inr}
+use mathlib.Core.Path.{_≡_, refl, ap, _∙_}
+use native.Mathlib.Decide.{ℕ-discrete}
+use native.Mathlib.Omega.{arith}
+use Prim.Native.Nat.{ℕ, zero, suc, _≤_, _<_}
+use Rattle.records.proofs.FieldLaws.{SlotRead, LimitRead, ListedRead}
+use Rattle.records.proofs.ReadSteps.{ListingRead, RequestRead, field-inside, listed-range, request-read}
+use Rattle.records.specs.declared.Ask.{Ask}
+use Rattle.records.specs.declared.Cursor.{Cursor}
+use Rattle.records.specs.declared.LimitField.the-variants.{Value as limit-value, Refused as limit-refused}
+use Rattle.records.specs.declared.ListedField.the-variants.{Refused as listed-refused}
+use Rattle.records.specs.declared.Listing.{Listing}
+use Rattle.records.specs.declared.Reading.the-variants.{Whole, Refused}
+use Rattle.records.specs.declared.ReadRequest.{ReadRequest}
+use Rattle.records.specs.declared.Refusal.{Refusal}
+use Rattle.records.specs.declared.Request.{Request}
+use Rattle.records.specs.declared.SlotField.the-variants.{Value as slot-value, Refused as slot-refused}
+use Rattle.records.specs.Numbers.{BAD-FIELD, NOT-RISING}
+use Rattle.records.specs.Request.{askOf, contentAt, noAsk, noAsks, readRequest, refusedRequest}
+use Rattle.slots.specs.declared.CoreSlot.{CoreSlot}
+use Rattle.slots.specs.Limits.{IDS, LAST-SLOT, LONGEST, LARGEST-BOUND}
+use Rattle.timetable.proofs.Ranges.{Period}
+
+-- An id is not listed, or its period is 2^k and its bound at most 8, which is 0 where its field was short.
+abbrev pub AskRange : Ask → Type 0
+AskRange a = ((a .period ≡ 0) × (a .bound ≡ 0)) ⊎ (Period (a .period) × (a .bound ≤ LARGEST-BOUND))
+
+-- One ask in range for each id.
+pub record AsksRange (asks : List Ask) : Type 0 where
+  pub count : length asks ≡ IDS
+  pub each : (i : ℕ) → i < IDS → AskRange (askOf asks i)
+
+-- A request in range.
+pub record RequestRange (q : Request) : Type 0 where
+  pub slot : q .slot .0 ≤ LAST-SLOT
+  pub limit : q .limit ≤ LONGEST
+  pub asks : AsksRange (q .asks)
+
+-- A refusal of reading: its number is 3, 4 or 5, and its place in the record or at its end.
+pub record RefusalRange (s : List ℕ) (r : Refusal) : Type 0 where
+  pub low : BAD-FIELD ≤ r .number
+  pub high : r .number ≤ NOT-RISING
+  pub inside : r .place ≤ length s
+
+-- Where nothing is asked, every id is not listed.
+pub no-ask : (i : ℕ) → askOf noAsks i ≡ noAsk
+no-ask = same IDS
+  where
+    same : (n i : ℕ) → getD (replicate n noAsk) i noAsk ≡ noAsk
+    same zero i = refl
+    same (suc n) zero = refl
+    same (suc n) (suc i) = same n i
+
+-- A listing that asks for nothing is in range.
+no-asks-range : AsksRange noAsks
+no-asks-range = record { count = refl; each = λ i h. inl (ap (λ (a : Ask). a .period) (no-ask i), ap (λ (a : Ask). a .bound) (no-ask i)) }
+
+-- One more id listed in range.
+set-range : (asks : List Ask) (id : ℕ) (a : Ask) → id < IDS → AskRange a → AsksRange asks → AsksRange (set asks id a)
+set-range asks id a h r all = record { count = length-set asks id a ∙ all .count; each = λ i k. at i k (ℕ-discrete i id) }
+  where
+    at : (i : ℕ) → i < IDS → Dec (i ≡ id) → AskRange (askOf (set asks id a) i)
+    at i k (yes e) = rw (e, getD-set-same asks id a noAsk (omega (arith, all .count))) r
+    at i k (no e) = rw (getD-set-other asks id i a noAsk e) (all .each i k)
+
+module _ (s : List ℕ) where
+  -- A listing keeps its asks in range from field to field.
+  listing-range : {at floor : ℕ} {asks : List Ask} {x : Listing} → ListingRead s at floor asks x → AsksRange asks → AsksRange (x .asks)
+  listing-range (ListingRead.end h) r = r
+  listing-range (ListingRead.stop h f) r = r
+  listing-range (ListingRead.more {at = at} {asks = asks} h f e k d) r =
+      let l = listed-range s at f e in
+      listing-range d (set-range asks (contentAt s at 0) _ (l .id-range)
+      (inr (record { k = contentAt s at 1; small = l .k-range; power = refl }, l .bound-range)) r)
+
+  -- A refused tag 3 field.
+  listed-refused-range : (at floor : ℕ) {r : Refusal} → at ≤ length s → ListedRead s at floor (listed-refused r) → RefusalRange s r
+  listed-refused-range at floor h (ListedRead.wrong p q) = omega arith
+  listed-refused-range at floor h (ListedRead.high f e) = omega arith
+  listed-refused-range at floor h (ListedRead.low f e k) = omega arith
+
+  -- A refused field of the request slot.
+  slot-refused-range : {r : Refusal} → SlotRead s 0 (slot-refused r) → RefusalRange s r
+  slot-refused-range (SlotRead.wrong p) = omega arith
+  slot-refused-range (SlotRead.high p q) = omega arith
+
+  -- A refused field of T.
+  limit-refused-range : (at : ℕ) {r : Refusal} → at ≤ length s → LimitRead s at (limit-refused r) → RefusalRange s r
+  limit-refused-range at h (LimitRead.wrong p) = omega arith
+  limit-refused-range at h (LimitRead.high p q) = omega arith
+
+  -- A refused listing.
+  listing-refused-range : {at floor : ℕ} {asks : List Ask} {x : Listing} → ListingRead s at floor asks x → (r : Refusal)
+      → x .reading ≡ Refused r → RefusalRange s r
+  listing-refused-range (ListingRead.end h) r q = absurd (let k : _≡_ {A = ℕ} 0 1 = cc in omega arith)
+  listing-refused-range (ListingRead.stop {at = at} {floor = floor} {r = t} h f) r q =
+      let k : t ≡ r = cc in
+      rw (← k) (listed-refused-range at floor (omega arith) f)
+  listing-refused-range (ListingRead.more h f e k d) r q = listing-refused-range d r q
+
+-- The request slot that was read is in range, and its field in the record.
+slot-range : (s : List ℕ) {slot : CoreSlot} {next : Cursor} → SlotRead s 0 (slot-value slot next) → (slot .0 ≤ LAST-SLOT) × (11 ≤ length s)
+slot-range s (SlotRead.value p q) = (q, field-inside s 0 1 8 p .0)
+
+-- T that was read is in range.
+limit-range : (s : List ℕ) (at : ℕ) {limit : ℕ} {next : Cursor} → LimitRead s at (limit-value limit next) → limit ≤ LONGEST
+limit-range s at (LimitRead.value p q) = q
+
+-- A request that is read whole is in range.
+pub read-in-range : (s : List ℕ) → readRequest s .reading ≡ Whole → RequestRange (readRequest s .request)
+unfolding refusedRequest
+read-in-range s = at (readRequest s) (request-read s)
+  where
+    at : (x : ReadRequest) → RequestRead s x → x .reading ≡ Whole → RequestRange (x .request)
+    at x (RequestRead.no-slot a) e = absurd (let k : _≡_ {A = ℕ} 0 1 = cc in omega arith)
+    at x (RequestRead.no-limit a b) e = absurd (let k : _≡_ {A = ℕ} 0 1 = cc in omega arith)
+    at x (RequestRead.no-listing a b c) e = absurd (let k : _≡_ {A = ℕ} 0 1 = cc in omega arith)
+    at x (RequestRead.whole a b c) e =
+        record { slot = slot-range s a .0; limit = limit-range s 11 b; asks = listing-range s c no-asks-range }
+
+-- A request that is refused is refused with 3, 4 or 5, at a place in the record or at its end.
+pub refused-in-range : (s : List ℕ) (r : Refusal) → readRequest s .reading ≡ Refused r → RefusalRange s r
+unfolding refusedRequest
+refused-in-range s r = at (readRequest s) (request-read s)
+  where
+    same : (t : Refusal) → Refused t ≡ Refused r → RefusalRange s t → RefusalRange s r
+    same t e h = let k : t ≡ r = cc in rw (← k) h
+
+    at : (x : ReadRequest) → RequestRead s x → x .reading ≡ Refused r → RefusalRange s r
+    at x (RequestRead.no-slot a) e = same _ e (slot-refused-range s a)
+    at x (RequestRead.no-limit a b) e = same _ e (limit-refused-range s 11 (slot-range s a .1) b)
+    at x (RequestRead.no-listing a b c) e = same _ e (listing-refused-range s c _ refl)
+    at x (RequestRead.whole a b c) e = absurd (let k : _≡_ {A = ℕ} 0 1 = cc in omega arith)

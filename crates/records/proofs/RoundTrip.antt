@@ -1,0 +1,207 @@
+-- A request in range is read back from what it is written as: each field stands where the one before ends. Assumes nothing.
+use borrow.Author.Tests.{eqb-true, eqb-false, le-leb, lt-ltb, ltb-true, ltb-false}
+use lib.Dec.{eqb}
+use lib.ListN.{drop, length, length-drop, length-set, set}
+use lib.Seq.{ext-getD, getD-set-other, getD-set-same}
+use mathlib.Core.Bool.{Bool, true, false, cond, _&&_}
+use mathlib.Core.List.{List, [], _∷_, _++_, append-assoc, append-nil}
+use mathlib.Core.Logic.{inl, inr}
+use mathlib.Core.Path.{_≡_, refl, sym, ap, ap₂, _∙_, subst, subst₂}
+use native.Mathlib.Decide.{ℕ-discrete}
+use native.Mathlib.Nat.{add-zero}
+use native.Mathlib.Omega.{arith}
+use Prim.Native.Nat.{ℕ, zero, suc, _+_, _^_, _≤_, _<_}
+use Rattle.records.proofs.FieldLaws.{SlotRead, LimitRead, ListedForm}
+use Rattle.records.proofs.FieldStands.{after-stands, content-from, content-stands, field-stands, no-other-length, number-stands, stands-inside}
+use Rattle.records.proofs.OneForm.{Fresh, exponent-power, fresh-above}
+use Rattle.records.proofs.ReadLaws.{AskRange, AsksRange, RequestRange, no-ask}
+use Rattle.records.proofs.ReadSteps.{ListingRead, RequestRead, request-is}
+use Rattle.records.specs.Answer.{field}
+use Rattle.records.specs.declared.Ask.{Ask}
+use Rattle.records.specs.declared.Reading.the-variants.{Whole}
+use Rattle.records.specs.declared.Request.{Request}
+use Rattle.records.specs.Request.{askOf, contentAt, isAsked, isListing, noAsk, noAsks, readRequest}
+use Rattle.records.specs.Written.{exponentOf, listedBytes, listingBytes, numberBytes, requestRecord}
+use Rattle.slots.specs.Clocks.{coreSlot}
+use Rattle.slots.specs.Limits.{IDS, LARGEST-BOUND, LARGEST-K}
+use Rattle.timetable.proofs.Ranges.{Period, period-pos}
+use Rattle.timetable.specs.Sound.{isBound}
+
+-- A written tag 3 field as it is read back: its form, its id, what it asks and what follows it.
+record ListedBack (s : List ℕ) (at id : ℕ) (a : Ask) (rest : List ℕ) : Type 0 where
+  next : ℕ
+  bound : ℕ
+  range : Bool
+  form : ListedForm s at next bound range
+  in-range : range ≡ true
+  id-back : contentAt s at 0 ≡ id
+  ask-back : _≡_ {A = Ask} (record { period = 2 ^ contentAt s at 1; bound = bound }) a
+  after : drop next s ≡ rest
+  ahead : at < length s
+
+-- The id and the period of a written tag 3 field are read back, and they are in range.
+listing-back : (s : List ℕ) (at id : ℕ) (a : Ask) (more rest : List ℕ) → id < IDS → (p : Period (a .period))
+    → drop at s ≡ field 3 (id ∷ exponentOf (a .period) ∷ more) ++ rest
+    → (contentAt s at 0 ≡ id) × (2 ^ contentAt s at 1 ≡ a .period) × (isListing s at ≡ true)
+unfolding isListing
+listing-back s at id a more rest h p e = (
+  i,
+  ap (λ (n : ℕ). 2 ^ n) k ∙ sym (p .power),
+  ap₂ _&&_ (lt-ltb (contentAt s at 0) IDS (omega (arith, i))) (le-leb (contentAt s at 1) LARGEST-K (omega (arith, k, p .small))),
+)
+  where
+    content : List ℕ
+    content = id ∷ exponentOf (a .period) ∷ more
+
+    i : contentAt s at 0 ≡ id
+    i = content-stands s at 3 content rest e 0 (omega arith)
+
+    k : contentAt s at 1 ≡ p .k
+    k = content-stands s at 3 content rest e 1 (omega arith) ∙ ap exponentOf (p .power) ∙ exponent-power (p .k) (p .small)
+
+-- A written tag 3 field is read back, long or short.
+listed-back : (s : List ℕ) (at id : ℕ) (a : Ask) (rest : List ℕ) → id < IDS → Period (a .period) → a .bound ≤ LARGEST-BOUND
+    → drop at s ≡ listedBytes id a ++ rest → ListedBack s at id a rest
+unfolding listedBytes isBound
+listed-back s at id a rest h p b = by (eqb (a .bound) 0) refl
+  where
+    by : (t : Bool) → eqb (a .bound) 0 ≡ t
+        → drop at s
+        ≡ cond t (field 3 (id ∷ exponentOf (a .period) ∷ [])) (field 3 (id ∷ exponentOf (a .period) ∷ a .bound ∷ [])) ++ rest
+        → ListedBack s at id a rest
+    by true q e =
+        let content = id ∷ exponentOf (a .period) ∷ [] in
+        let l = listing-back s at id a [] rest h p e in
+        record {
+          next = at + 5;
+          bound = 0;
+          range = isListing s at;
+          form = ListedForm.short (no-other-length s at 3 content rest e 3 3 (omega arith)) (field-stands s at 3 content rest e);
+          in-range = l .2;
+          id-back = l .0;
+          ask-back = ap₂ (λ (x y : ℕ). record { period = x; bound = y }) (l .1) (sym (eqb-true (a .bound) 0 q));
+          after = after-stands s at 3 content rest e (at + 5) (omega arith);
+          ahead = omega (arith, stands-inside s at 3 content rest e);
+        }
+    by false q e =
+        let content = id ∷ exponentOf (a .period) ∷ a .bound ∷ [] in
+        let l = listing-back s at id a (a .bound ∷ []) rest h p e in
+        let r = content-stands s at 3 content rest e 2 (omega arith) in
+        let z : ¬ (a .bound ≡ 0) = eqb-false (a .bound) 0 q in
+        record {
+          next = at + 6;
+          bound = contentAt s at 2;
+          range = isListing s at && isBound (contentAt s at 2);
+          form = ListedForm.long (field-stands s at 3 content rest e);
+          in-range = ap₂ _&&_ (l .2) (ap₂ _&&_ (lt-ltb 0 (contentAt s at 2) (omega arith)) (le-leb (contentAt s at 2) LARGEST-BOUND (omega arith)));
+          id-back = l .0;
+          ask-back = ap₂ (λ (x y : ℕ). record { period = x; bound = y }) (l .1) r;
+          after = after-stands s at 3 content rest e (at + 6) (omega arith);
+          ahead = omega (arith, stands-inside s at 3 content rest e);
+        }
+
+-- The tag 3 fields of the listed ids among the n from `floor` on.
+unfoldable listingFrom : List Ask → ℕ → ℕ → List ℕ
+listingFrom asks floor zero = []
+listingFrom asks floor (suc n) =
+    cond (isAsked (askOf asks floor)) (listedBytes floor (askOf asks floor)) [] ++ listingFrom asks (suc floor) n
+
+-- A listing is written up to an id, and then from there on.
+listing-split : (asks : List Ask) (floor n : ℕ) → listingBytes asks (floor + n) ≡ listingBytes asks floor ++ listingFrom asks floor n
+unfolding listingBytes listingFrom
+listing-split asks floor zero = rw (add-zero floor) (sym (append-nil (listingBytes asks floor)))
+listing-split asks floor (suc n) =
+    let k : floor + suc n ≡ suc floor + n = omega arith in
+    rw k (listing-split asks (suc floor) n ∙ append-assoc (listingBytes asks floor) _ (listingFrom asks (suc floor) n))
+
+-- Read up to an id: what is asked below it, and nothing from there on.
+record ReadUpTo (all : List Ask) (floor : ℕ) (asks : List Ask) : Type 0 where
+  count : length asks ≡ IDS
+  below : (i : ℕ) → i < floor → askOf asks i ≡ askOf all i
+  fresh : Fresh floor asks
+
+-- One more id is read.
+below-next : (all asks : List Ask) (floor : ℕ) → ((i : ℕ) → i < floor → askOf asks i ≡ askOf all i) → askOf asks floor ≡ askOf all floor
+    → (i : ℕ) → i < suc floor → askOf asks i ≡ askOf all i
+below-next all asks floor b e i h = by (ℕ-discrete i floor)
+  where
+    by : Dec (i ≡ floor) → askOf asks i ≡ askOf all i
+    by (yes q) = rw q e
+    by (no q) = b i (omega arith)
+
+-- An ask in range that does not list its id asks for nothing.
+not-asked : (a : Ask) → AskRange a → isAsked a ≡ false → a ≡ noAsk
+not-asked a (inl r) e = ap₂ (λ (x y : ℕ). record { period = x; bound = y }) (r .0) (r .1)
+not-asked a (inr r) e = absurd (omega (arith, period-pos (a .period) (r .0), ltb-false 0 (a .period) e))
+
+-- An ask in range that lists its id has a period and a bound in range.
+asked : (a : Ask) → AskRange a → isAsked a ≡ true → Period (a .period) × (a .bound ≤ LARGEST-BOUND)
+asked a (inl r) e = absurd (omega (arith, r .0, ltb-true 0 (a .period) e))
+asked a (inr r) e = r
+
+module _ (s : List ℕ) (all : List Ask) (range : AsksRange all) where
+  -- A written listing is read back from any id on.
+  listing-whole : (n at floor low : ℕ) (asks : List Ask) → floor + n ≡ IDS → low ≤ floor → ReadUpTo all floor asks
+      → drop at s ≡ listingFrom all floor n → ListingRead s at low asks (record { reading = Whole; asks = all })
+  unfolding listingFrom
+  listing-whole zero at floor low asks m l r e =
+      let same : asks ≡ all = ext-getD noAsk asks all (r .count ∙ sym (range .count)) (λ i h. r .below i (omega (arith, r .count))) in
+      subst (λ (x : List Ask). ListingRead s at low x (record { reading = Whole; asks = all })) (sym same)
+      (ListingRead.end {at = at} (omega (arith, length-drop at s, ap (λ (x : List ℕ). length x) e)))
+  listing-whole (suc n) at floor low asks m l r e =
+      by (isAsked (askOf all floor)) refl (λ k j x. listing-whole n k (suc floor) j x (omega arith)) e
+    where
+      by : (t : Bool) → isAsked (askOf all floor) ≡ t
+          → ((k j : ℕ) (x : List Ask) → j ≤ suc floor → ReadUpTo all (suc floor) x → drop k s ≡ listingFrom all (suc floor) n
+          → ListingRead s k j x (record { reading = Whole; asks = all }))
+          → drop at s ≡ cond t (listedBytes floor (askOf all floor)) [] ++ listingFrom all (suc floor) n
+          → ListingRead s at low asks (record { reading = Whole; asks = all })
+      by false q rest e =
+          let none = not-asked (askOf all floor) (range .each floor (omega arith)) q in
+          rest at low asks (omega arith)
+          (record {
+            count = r .count;
+            below = below-next all asks floor (r .below) (r .fresh floor (omega arith) ∙ sym none);
+            fresh = λ i h. r .fresh i (omega arith);
+          })
+          e
+      by true q rest e =
+          let a = askOf all floor in
+          let p = asked a (range .each floor (omega arith)) q in
+          let w = listed-back s at floor a (listingFrom all (suc floor) n) (omega arith) (p .0) (p .1) e in
+          ListingRead.more {floor = low} (w .ahead) (w .form) (w .in-range) (omega (arith, w .id-back))
+          (subst₂ (λ (i : ℕ) (b : Ask). ListingRead s (w .next) (suc i) (set asks i b) (record { reading = Whole; asks = all }))
+          (sym (w .id-back))
+          (sym (w .ask-back))
+          (rest (w .next) (suc floor) (set asks floor a) (omega arith)
+          (record {
+            count = length-set asks floor a ∙ r .count;
+            below =
+                below-next all (set asks floor a) floor
+                (λ i h. getD-set-other asks floor i a noAsk (omega arith) ∙ r .below i h)
+                (getD-set-same asks floor a noAsk (omega (arith, r .count)));
+            fresh = fresh-above asks floor a (r .fresh);
+          })
+          (w .after)))
+
+-- A request in range, as it is written, is read back whole.
+pub round-trip : (r : Request) → RequestRange r → readRequest (requestRecord r) ≡ record { reading = Whole; request = r }
+unfolding requestRecord numberBytes listingBytes
+round-trip r range =
+    let s = requestRecord r in
+    let slot = numberBytes (r .slot .0) 8 in
+    let limit = r .limit ∷ [] in
+    let listing = listingBytes (r .asks) IDS in
+    let a : drop 0 s ≡ field 1 slot ++ (field 2 limit ++ listing) = append-assoc (field 1 slot) (field 2 limit) listing in
+    let b : drop 11 s ≡ field 2 limit ++ listing = after-stands s 0 1 slot _ a 11 refl in
+    let c : drop 15 s ≡ listing = after-stands s 11 2 limit listing b 15 refl in
+    let n = number-stands s 3 8 (r .slot .0) _ (omega (arith, range .slot)) (content-from s 0 1 slot _ a) in
+    let t = content-stands s 11 2 limit listing b 0 (omega arith) in
+    let start : ReadUpTo (r .asks) 0 noAsks = record { count = refl; below = λ i h. absurd (omega arith); fresh = λ i h. no-ask i } in
+    let l = listing-whole s (r .asks) (range .asks) IDS 15 0 0 noAsks refl (omega arith) start (c ∙ listing-split (r .asks) 0 IDS) in
+    request-is s _
+    (RequestRead.whole
+    (SlotRead.value (field-stands s 0 1 slot _ a) (omega (arith, range .slot)))
+    (LimitRead.value (field-stands s 11 2 limit listing b) (omega (arith, range .limit)))
+    l)
+    ∙ ap₂ (λ (x y : ℕ). record { reading = Whole; request = record { slot = coreSlot x; limit = y; asks = r .asks } }) n t

@@ -1,0 +1,246 @@
+-- The run of accepted timetables: each timetable's kept shortfalls are those of the run, counted across every change before it,
+-- and every listed id's bound is kept in every slot. By induction on the history. Assumes nothing.
+use borrow.Author.Tests.{le-leb, lt-leb, eq-eqb, ne-eqb, lt-ltb, ltb-true}
+use lib.Dec.{eqb, leb, ltb}
+use lib.ListN.{getD, length, replicate, length-replicate, List·getD-eq-default, getD-replicate}
+use mathlib.Core.Bool.{Bool, true, false, cond, not, _&&_, _||_}
+use mathlib.Core.List.{List, [], _∷_}
+use mathlib.Core.Logic.{_≢_}
+use mathlib.Core.Path.{_≡_, refl, sym, ap, ap₂, _∙_, subst, fun-ext}
+use native.Mathlib.Decide.{ℕ-discrete, decLt, decLe}
+use native.Mathlib.Nat.{add-zero, add-suc}
+use native.Mathlib.Omega.{arith}
+use Prim.Native.Nat.{ℕ, zero, suc, _+_, _-_, _*_, _≤_, _<_}
+use Rattle.slots.proofs.Below.{true-false}
+use Rattle.slots.proofs.Windows.{over-agree, shortfall-suc, shortfall-newly}
+use Rattle.slots.specs.Clocks.{coreSlot}
+use Rattle.slots.specs.Limits.{IDS, WHOLE}
+use Rattle.slots.specs.Shortfall.{overSlot, weightOf}
+use Rattle.slots.specs.Slots.{Slot, Run, isOwner, own, shortfall, shortfallOver}
+use Rattle.timetable.proofs.Cycle.{kept-for-ever}
+use Rattle.timetable.proofs.Owner.{serves-before, serves-from, owner-serves}
+use Rattle.timetable.proofs.Ranges.{InRange, period-whole}
+use Rattle.timetable.proofs.Sound.{Sound}
+use Rattle.timetable.specs.declared.Entry.{Entry}
+use Rattle.timetable.specs.declared.Timetable.{Timetable}
+use Rattle.timetable.specs.History.{History, present, inForce, newlyListed, runOf}
+use Rattle.timetable.specs.Timetable.{noEntry, emptyTimetable, entryOf, isListed, lists, weight, cyclic, serves, ownerAt, shortfallAfter, shortfallAt, startShortfall, transitionShortfall}
+
+-- A timetable that continues another: it is sound, starts at the other's base or later, and walks its transition from the other's shortfalls,
+-- every bound kept on the way, to the shortfalls that it keeps for its base.
+pub record Continues (before t : Timetable) : Type 0 where
+  pub sound : Sound t
+  pub shape : length (t .entries) ≡ IDS
+  pub later : before .base .0 ≤ t .request .0
+  pub kept : (i : ℕ) → i < IDS → lists t i ≡ true → (n : ℕ) → n ≤ t .length
+      → transitionShortfall (t .owners) i (weight (entryOf (t .entries) i)) (startShortfall before (t .request) i) n < WHOLE * entryOf (t .entries) i .bound
+  pub arrives : (i : ℕ) → i < IDS → lists t i ≡ true
+      → transitionShortfall (t .owners) i (weight (entryOf (t .entries) i)) (startShortfall before (t .request) i) (t .length) ≡ entryOf (t .entries) i .shortfall
+
+-- A history in which each timetable continues the one before, from the empty one on.
+abbrev pub Valid : History → Type 0
+Valid [] = Unit {0}
+Valid (t ∷ h) = Continues (present h) t × Valid h
+
+-- The empty timetable lists nobody.
+pub empty-lists : (i : ℕ) → lists emptyTimetable i ≡ false
+empty-lists i = at (decLt i IDS)
+  where
+    at : Dec (i < IDS) → lists emptyTimetable i ≡ false
+    at (yes k) = ap isListed (getD-replicate IDS i noEntry noEntry k)
+    at (no k) = ap isListed (List·getD-eq-default (replicate IDS noEntry) noEntry {n = i} (omega arith))
+
+-- ---- which timetable is in force, and who is newly listed
+
+module _ (t : Timetable) (h : History) where
+  -- From its request slot on a timetable is in force, as long as none comes after it.
+  pub in-force : (x : ℕ) → t .request .0 ≤ x → inForce (t ∷ h) x ≡ t
+  unfolding inForce
+  in-force x l = rw (le-leb (t .request .0) x l)
+
+  -- Before it the others are.
+  in-force-before : (x : ℕ) → x < t .request .0 → inForce (t ∷ h) x ≡ inForce h x
+  unfolding inForce
+  in-force-before x l = rw (lt-leb (t .request .0) x l)
+
+  newly-before : (x : ℕ) → x < t .request .0 → newlyListed (t ∷ h) x ≡ newlyListed h x
+  unfolding newlyListed
+  newly-before x l = fun-ext (λ i. rw (lt-leb (t .request .0) x l))
+
+  -- Nobody is newly listed after the request slot.
+  newly-after : (x i : ℕ) → t .request .0 < x → newlyListed (t ∷ h) x i ≡ false
+  unfolding newlyListed
+  newly-after x i l = rw (le-leb (t .request .0) x (omega arith), ne-eqb (t .request .0) x (omega arith))
+
+  -- At the request slot a listed id is newly listed if it was not listed before or was newly listed there.
+  newly-at : (i : ℕ) → lists t i ≡ true → newlyListed (t ∷ h) (t .request .0) i ≡ not (lists (present h) i) || newlyListed h (t .request .0) i
+  unfolding newlyListed
+  newly-at i l = rw (le-leb (t .request .0) (t .request .0) (omega arith), eq-eqb (t .request .0) (t .request .0) refl, l)
+
+  -- Before the request slot the run is as it was.
+  run-before : (x : ℕ) → x < t .request .0 → runOf (t ∷ h) x ≡ runOf h x
+  unfolding runOf
+  run-before x l =
+      ap₂ (λ (u : Timetable) (f : ℕ → Bool). record {
+        owner = ownerAt u (coreSlot x);
+        weight = λ i. weight (entryOf (u .entries) i);
+        bound = λ i. entryOf (u .entries) i .bound;
+        newly = f;
+      })
+      (in-force-before x l)
+      (newly-before x l)
+
+  -- ---- the slots from the request slot on
+
+  -- They are the timetable's own.
+  own-is : Sound t → (i x : ℕ) → i < IDS → t .request .0 ≤ x → own (runOf (t ∷ h)) i x ≡ serves t (coreSlot x) i
+  unfolding runOf own
+  own-is s i x k l = ap (λ (u : Timetable). isOwner i (ownerAt u (coreSlot x))) (in-force x l) ∙ owner-serves t (s .apart) x i k
+
+  pub weight-is : (i x : ℕ) → t .request .0 ≤ x → runOf (t ∷ h) x .weight i ≡ weight (entryOf (t .entries) i)
+  unfolding runOf
+  weight-is i x l = ap (λ (u : Timetable). weight (entryOf (u .entries) i)) (in-force x l)
+
+  pub bound-is : (i x : ℕ) → t .request .0 ≤ x → runOf (t ∷ h) x .bound i ≡ entryOf (t .entries) i .bound
+  unfolding runOf
+  bound-is i x l = ap (λ (u : Timetable). entryOf (u .entries) i .bound) (in-force x l)
+
+  -- One slot on, by the timetable.
+  over-is : Sound t → (i x : ℕ) → i < IDS → t .request .0 ≤ x
+      → shortfallOver (runOf (t ∷ h)) i x ≡ overSlot (serves t (coreSlot x) i) (weight (entryOf (t .entries) i)) (shortfall (runOf (t ∷ h)) i x)
+  unfolding shortfallOver
+  over-is s i x k l =
+      ap₂ (λ (b : Bool) (w : ℕ). overSlot b w (shortfall (runOf (t ∷ h)) i x)) (own-is s i x k l) (weight-is i x l)
+
+  suc-is : Sound t → (i x : ℕ) → i < IDS → t .request .0 ≤ x
+      → shortfall (runOf (t ∷ h)) i (suc x) ≡ overSlot (serves t (coreSlot x) i) (weight (entryOf (t .entries) i)) (shortfall (runOf (t ∷ h)) i x)
+  unfolding runOf
+  suc-is s i x k l = shortfall-suc (runOf (t ∷ h)) i x (newly-after (suc x) i (omega arith)) ∙ over-is s i x k l
+
+  -- An id that was listed before enters with the shortfall that it had.
+  enters : (i : ℕ) → lists t i ≡ true → lists (present h) i ≡ true → (x : ℕ) → t .request .0 ≡ x
+      → shortfall (runOf (t ∷ h)) i x ≡ shortfall (runOf h) i x
+  unfolding shortfall shortfallOver runOf
+  enters i l b zero e = refl
+  enters i l b (suc x) e =
+      let o = over-agree i (runOf (t ∷ h)) (runOf h) x (λ y k. run-before y (omega arith)) in
+      ap₂ (λ (a : Bool) (s : ℕ). cond a 0 s) news o
+    where
+      news : newlyListed (t ∷ h) (suc x) i ≡ newlyListed h (suc x) i
+      news =
+          subst (λ (y : ℕ). newlyListed (t ∷ h) y i ≡ newlyListed h y i) e
+          (newly-at i l ∙ ap (λ (c : Bool). not c || newlyListed h (t .request .0) i) b)
+
+  -- An id that was not listed before starts at 0.
+  starts : (i : ℕ) → lists t i ≡ true → lists (present h) i ≡ false → shortfall (runOf (t ∷ h)) i (t .request .0) ≡ 0
+  unfolding runOf
+  starts i l b =
+      shortfall-newly (runOf (t ∷ h)) i (t .request .0) (newly-at i l ∙ ap (λ (c : Bool). not c || newlyListed h (t .request .0) i) b)
+
+  module _ (c : Continues (present h) t) (i : ℕ) (k : i < IDS) (l : lists t i ≡ true)
+      (ih : lists (present h) i ≡ true → (x : ℕ) → present h .base .0 ≤ x → shortfall (runOf h) i x ≡ shortfallAt (present h) i (coreSlot x)) where
+    -- The shortfall with which id i enters the change is the run's.
+    enters-run : shortfall (runOf (t ∷ h)) i (t .request .0) ≡ startShortfall (present h) (t .request) i
+    unfolding startShortfall
+    enters-run = at (lists (present h) i) refl
+      where
+        at : (b : Bool) → lists (present h) i ≡ b
+            → shortfall (runOf (t ∷ h)) i (t .request .0) ≡ cond (lists (present h) i) (shortfallAt (present h) i (t .request)) 0
+        at true e = rw e (enters i l e (t .request .0) refl ∙ ih e (t .request .0) (c .later))
+        at false e = rw e (starts i l e)
+
+    -- Along the transition.
+    transition-run : (n : ℕ) → n ≤ t .length
+        → shortfall (runOf (t ∷ h)) i (t .request .0 + n) ≡ transitionShortfall (t .owners) i (weight (entryOf (t .entries) i)) (startShortfall (present h) (t .request) i) n
+    unfolding transitionShortfall
+    transition-run zero m = rw add-zero enters-run
+    transition-run (suc n) m =
+        let r : ℕ = t .request .0 in
+        let b : r + n < t .base .0 = omega (arith, c .sound .base) in
+        let s : serves t (coreSlot (r + n)) i ≡ eqb i (getD (t .owners) n 0) =
+        serves-before t (r + n) i b ∙ ap (λ (x : ℕ). eqb i (getD (t .owners) x 0)) (omega arith) in
+        rw (add-suc r n)
+        (suc-is (c .sound) i (r + n) k (omega arith)
+        ∙ ap₂ (λ (a : Bool) (x : ℕ). overSlot a (weight (entryOf (t .entries) i)) x) s (transition-run n (omega arith)))
+
+    -- From the base on.
+    cycle-run : (n : ℕ) → shortfall (runOf (t ∷ h)) i (t .base .0 + n) ≡ shortfallAfter (entryOf (t .entries) i) n
+    unfolding shortfallAfter
+    cycle-run zero =
+        ap (shortfall (runOf (t ∷ h)) i) (add-zero (t .base .0) ∙ c .sound .base) ∙ transition-run (t .length) (omega arith) ∙ c .arrives i k l
+    cycle-run (suc n) =
+        let b : ℕ = t .base .0 in
+        let s : serves t (coreSlot (b + n)) i ≡ cyclic (entryOf (t .entries) i) n =
+        serves-from t (b + n) i (omega arith) ∙ ap (cyclic (entryOf (t .entries) i)) (omega arith) in
+        rw (add-suc b n)
+        (suc-is (c .sound) i (b + n) k (omega (arith, c .sound .base))
+        ∙ ap₂ (λ (a : Bool) (x : ℕ). overSlot a (weight (entryOf (t .entries) i)) x) s (cycle-run n))
+
+    -- The bound is kept over every slot from the request slot on.
+    kept-from : (x : ℕ) → t .request .0 ≤ x → shortfall (runOf (t ∷ h)) i (suc x) < WHOLE * entryOf (t .entries) i .bound
+    kept-from x m = at (decLt x (t .base .0))
+      where
+        e : Entry
+        e = entryOf (t .entries) i
+
+        r : InRange e
+        r = c .sound .ranged .listed i k l
+
+        at : Dec (x < t .base .0) → shortfall (runOf (t ∷ h)) i (suc x) < WHOLE * e .bound
+        at (yes b) =
+            let n : ℕ = suc x - t .request .0 in
+            let z : t .request .0 + n ≡ suc x = omega arith in
+            let q : n ≤ t .length = omega (arith, c .sound .base) in
+            subst (λ (y : ℕ). shortfall (runOf (t ∷ h)) i y < WHOLE * e .bound) z
+            (subst (λ (y : ℕ). y < WHOLE * e .bound) (sym (transition-run n q)) (c .kept i k l n q))
+        at (no b) =
+            let n : ℕ = suc x - t .base .0 in
+            let z : t .base .0 + n ≡ suc x = omega arith in
+            subst (λ (y : ℕ). shortfall (runOf (t ∷ h)) i y < WHOLE * e .bound) z
+            (subst (λ (y : ℕ). y < WHOLE * e .bound) (sym (cycle-run n))
+            (kept-for-ever e (period-whole (e .period) (r .period)) (r .inside) (e .bound) (r .bound-low) .1 (r .kept) n))
+
+-- ---- the whole history
+
+-- The kept shortfall of a listed id is the run's, at every slot from the base on.
+pub present-run : (h : History) → Valid h → (i : ℕ) → i < IDS → lists (present h) i ≡ true → (x : ℕ) → present h .base .0 ≤ x
+    → shortfall (runOf h) i x ≡ shortfallAt (present h) i (coreSlot x)
+unfolding present shortfallAt
+present-run [] v i k l x b = absurd (true-false l (empty-lists i))
+present-run (t ∷ h) v i k l x b =
+    ap (shortfall (runOf (t ∷ h)) i) (omega arith) ∙ cycle-run t h (v .0) i k l (λ m. present-run h (v .1) i k m) (x - t .base .0)
+
+-- An id with a weight is listed.
+pub weight-lists : (t : Timetable) → length (t .entries) ≡ IDS → (i : ℕ) → 0 < weight (entryOf (t .entries) i) → (i < IDS) × (lists t i ≡ true)
+unfolding weightOf
+weight-lists t s i w = at (decLt i IDS) (ℕ-discrete (entryOf (t .entries) i .period) 0)
+  where
+    at : Dec (i < IDS) → Dec (entryOf (t .entries) i .period ≡ 0) → (i < IDS) × (lists t i ≡ true)
+    at d (yes z) = absurd (omega (arith, w, ap weightOf z))
+    at (yes k) (no z) = (k, lt-ltb 0 (entryOf (t .entries) i .period) (omega arith))
+    at (no k) (no z) =
+        absurd (z (ap (λ (e : Entry). e .period) (List·getD-eq-default (t .entries) noEntry {n = i} (omega (arith, s)))))
+
+-- In every slot of the run the shortfall of each listed id stays below 256 R, by the bound in force in that slot.
+pub kept-run : (h : History) → Valid h → (i x : ℕ) → 0 < runOf h x .weight i → shortfallOver (runOf h) i x < WHOLE * runOf h x .bound i
+unfolding runOf inForce
+kept-run [] v i x w = absurd (true-false (weight-lists emptyTimetable (length-replicate IDS noEntry) i w .1) (empty-lists i))
+kept-run (t ∷ h) v i x w = at (decLt x (t .request .0)) (λ y. kept-run h (v .1) i x y)
+  where
+    at : Dec (x < t .request .0) → (0 < runOf h x .weight i → shortfallOver (runOf h) i x < WHOLE * runOf h x .bound i)
+        → shortfallOver (runOf (t ∷ h)) i x < WHOLE * runOf (t ∷ h) x .bound i
+    at (yes b) ih =
+        let r = run-before t h x b in
+        let o = over-agree i (runOf (t ∷ h)) (runOf h) x (λ y k. run-before t h y (omega arith)) in
+        let q = ih (subst (λ (s : Slot). 0 < s .weight i) r w) in
+        subst (λ (s : Slot). shortfallOver (runOf (t ∷ h)) i x < WHOLE * s .bound i) (sym r)
+        (subst (λ (y : ℕ). y < WHOLE * runOf h x .bound i) (sym o) q)
+    at (no b) ih =
+        let m : t .request .0 ≤ x = omega arith in
+        let c = v .0 in
+        let w′ : 0 < weight (entryOf (t .entries) i) = subst (λ (y : ℕ). 0 < y) (weight-is t h i x m) w in
+        let l = weight-lists t (c .shape) i w′ in
+        let q = kept-from t h c i (l .0) (l .1) (λ z. present-run h (v .1) i (l .0) z) x m in
+        let s = shortfall-suc (runOf (t ∷ h)) i x (newly-after t h (suc x) i (omega arith)) in
+        subst (λ (y : ℕ). shortfallOver (runOf (t ∷ h)) i x < WHOLE * y) (sym (bound-is t h i x m))
+        (subst (λ (y : ℕ). y < WHOLE * entryOf (t .entries) i .bound) s q)

@@ -1,0 +1,5 @@
+pub mod Urgent
+pub mod Plans
+pub mod Search
+pub mod Reach
+pub mod Walk

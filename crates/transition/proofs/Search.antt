@@ -1,0 +1,131 @@
+-- The search of lengths ends as it says: at the first length with a placement, at a slot that cannot be given, or past the last length.
+-- By induction on the lengths that remain. Assumes nothing.
+use mathlib.Core.List.{List}
+use mathlib.Core.Option.{Option, none, some}
+use mathlib.Core.Path.{_≡_, refl, sym, ap, _∙_}
+use native.Mathlib.Nat.{add-zero}
+use native.Mathlib.Omega.{arith}
+use Prim.Native.Nat.{ℕ, zero, suc, _+_, _≤_, _<_}
+use Rattle.placement.specs.Placement.{Place, placement}
+use Rattle.transition.specs.declared.Ending.{Ending}
+use Rattle.transition.specs.declared.Ending.the-variants.{Found, Missed, Exhausted}
+use Rattle.transition.specs.declared.Plan.{Plan}
+use Rattle.transition.specs.declared.Searched.{Searched}
+use Rattle.transition.specs.Reach.{reachFrom}
+use Rattle.transition.specs.Transition.{longer, ended, passed, placed, searchFrom}
+
+-- The first k lengths from n on are reached and have no placement by rule 4.
+abbrev pub PassedFirst : ℕ → ℕ → Plan → Type 0
+PassedFirst k n plan = (m : ℕ) → m < k → (p : Plan) × (reachFrom m n plan ≡ some p) × (placement (p .entries) ≡ none)
+
+-- How a search from length n on, with `left` longer lengths, ended k lengths later.
+pub data Ended (left n : ℕ) (plan : Plan) (s : Searched) : Type 0 where
+  found : (k : ℕ) → k ≤ left → PassedFirst k n plan
+      → (p : Plan) → reachFrom k n plan ≡ some p → (ps : List Place) → placement (p .entries) ≡ some ps
+      → s ≡ record { ending = Found (n + k); tries = suc k; plan = placed p ps } → Ended left n plan s
+  missed : (k : ℕ) → k < left → PassedFirst (suc k) n plan → (p : Plan) → reachFrom k n plan ≡ some p → longer (n + k) p ≡ none
+      → s ≡ record { ending = Missed (n + k); tries = suc k; plan = p } → Ended left n plan s
+  exhausted : PassedFirst (suc left) n plan → (p : Plan) → s ≡ record { ending = Exhausted (n + left); tries = suc left; plan = p }
+      → Ended left n plan s
+
+-- One slot more, and then k.
+reach-suc : (k n : ℕ) (plan next : Plan) → longer n plan ≡ some next → reachFrom (suc k) n plan ≡ reachFrom k (suc n) next
+unfolding reachFrom
+reach-suc k n plan next e = ap (λ (o : Option Plan). elim o as (λ _. Option Plan) [ none ↦ none | some q ↦ reachFrom k (suc n) q ]) e
+
+-- A length that was passed over, before k that were.
+passed-suc : (k n : ℕ) (plan next : Plan) → placement (plan .entries) ≡ none → longer n plan ≡ some next → PassedFirst k (suc n) next
+    → PassedFirst (suc k) n plan
+unfolding reachFrom
+passed-suc k n plan next z e h zero l = (plan, refl, z)
+passed-suc k n plan next z e h (suc m) l =
+    let w = h m (omega arith) in
+    (w .0, reach-suc m n plan next e ∙ w .1, w .2)
+
+-- No length was passed over.
+passed-none : (n : ℕ) (plan : Plan) → PassedFirst 0 n plan
+passed-none n plan m l = absurd (omega arith)
+
+passed-one : (n : ℕ) (plan : Plan) → placement (plan .entries) ≡ none → PassedFirst 1 n plan
+unfolding reachFrom
+passed-one n plan z zero l = (plan, refl, z)
+passed-one n plan z (suc m) l = absurd (omega arith)
+
+-- How the search ended one length earlier.
+ended-suc : (left n : ℕ) (plan next : Plan) (s : Searched) → placement (plan .entries) ≡ none → longer n plan ≡ some next
+    → Ended left (suc n) next s → Ended (suc left) n plan (passed s)
+unfolding passed
+ended-suc left n plan next s z e (found k l h p r ps q i) =
+    found
+    (suc k)
+    (omega arith)
+    (passed-suc k n plan next z e h)
+    p
+    (reach-suc k n plan next e ∙ r)
+    ps
+    q
+    (ap passed i ∙ ap (λ (x : ℕ). record { ending = Found x; tries = suc (suc k); plan = placed p ps }) (omega arith))
+ended-suc left n plan next s z e (missed k l h p r q i) =
+    missed
+    (suc k)
+    (omega arith)
+    (passed-suc (suc k) n plan next z e h)
+    p
+    (reach-suc k n plan next e ∙ r)
+    (ap (λ (x : ℕ). longer x p) (omega arith) ∙ q)
+    (ap passed i ∙ ap (λ (x : ℕ). record { ending = Missed x; tries = suc (suc k); plan = p }) (omega arith))
+ended-suc left n plan next s z e (exhausted h p i) =
+    exhausted
+    (passed-suc (suc left) n plan next z e h)
+    p
+    (ap passed i ∙ ap (λ (x : ℕ). record { ending = Exhausted x; tries = suc (suc left); plan = p }) (omega arith))
+
+-- The search ends at a length with a placement.
+found-here : (left n : ℕ) (plan : Plan) (ps : List Place) → placement (plan .entries) ≡ some ps
+    → Ended left n plan (ended (Found n) (placed plan ps))
+unfolding ended reachFrom
+found-here left n plan ps e =
+    found
+    zero
+    (omega arith)
+    (passed-none n plan)
+    plan
+    refl
+    ps
+    e
+    (ap (λ (x : ℕ). record { ending = Found x; tries = 1; plan = placed plan ps }) (sym (add-zero n)))
+
+-- Every search ends in one of the three ways.
+pub search-ends : (left n : ℕ) (plan : Plan) → Ended left n plan (searchFrom left n plan)
+unfolding searchFrom ended reachFrom
+search-ends zero n plan = at (placement (plan .entries)) refl
+  where
+    at : (o : Option (List Place)) → placement (plan .entries) ≡ o
+        → Ended zero n plan (elim o [ none ↦ ended (Exhausted n) plan | some ps ↦ ended (Found n) (placed plan ps) ])
+    at none e =
+        exhausted (passed-one n plan e) plan (ap (λ (x : ℕ). record { ending = Exhausted x; tries = 1; plan = plan }) (sym (add-zero n)))
+    at (some ps) e = found-here zero n plan ps e
+search-ends (suc left) n plan = at (placement (plan .entries)) refl (longer n plan) refl (λ next. search-ends left (suc n) next)
+  where
+    at : (o : Option (List Place)) → placement (plan .entries) ≡ o → (q : Option Plan) → longer n plan ≡ q
+        → ((next : Plan) → Ended left (suc n) next (searchFrom left (suc n) next))
+        → Ended
+        (suc left)
+        n
+        plan
+        (elim o [
+          | none ↦ elim q [ none ↦ ended (Missed n) plan | some next ↦ passed (searchFrom left (suc n) next) ]
+          | some ps ↦ ended (Found n) (placed plan ps)
+        ])
+    at none e none f ih =
+        missed
+        zero
+        (omega arith)
+        (passed-one n plan e)
+        plan
+        refl
+        (ap (λ (x : ℕ). longer x plan) (add-zero n) ∙ f)
+        (ap (λ (x : ℕ). record { ending = Missed x; tries = 1; plan = plan }) (sym (add-zero n)))
+    at none e (some next) f ih = ended-suc left n plan next (searchFrom left (suc n) next) e f (ih next)
+    at (some ps) e none f ih = found-here (suc left) n plan ps e
+    at (some ps) e (some next) f ih = found-here (suc left) n plan ps e
