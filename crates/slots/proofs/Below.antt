@@ -111,3 +111,13 @@ module _ (test : ℕ → Bool) where
           → count n test + cond (test n) 1 0 ≡ k
       at (yes e) f g = rw (g (λ m l. p m (omega arith)), p n (omega arith)) (omega arith)
       at (no e) f g = rw (f (omega arith), q n (omega arith) (omega arith)) (omega arith)
+
+  -- No more numbers pass than there are.
+  pub count-most : (n : ℕ) → count n test ≤ n
+  unfolding count
+  count-most zero = omega arith
+  count-most (suc n) = at (test n) (count-most n)
+    where
+      at : (b : Bool) → count n test ≤ n → count n test + cond b 1 0 ≤ suc n
+      at true h = omega arith
+      at false h = omega arith

@@ -5,3 +5,4 @@ pub mod Meet
 pub mod Sound
 pub mod Owner
 pub mod Run
+pub mod Listing

@@ -16,7 +16,7 @@ use Rattle.slots.proofs.Windows.{over-agree, shortfall-suc, shortfall-newly}
 use Rattle.slots.specs.Clocks.{coreSlot}
 use Rattle.slots.specs.Limits.{IDS, WHOLE}
 use Rattle.slots.specs.Shortfall.{overSlot, weightOf}
-use Rattle.slots.specs.Slots.{Slot, Run, isOwner, own, shortfall, shortfallOver}
+use Rattle.slots.specs.Slots.{Slot, isOwner, one, own, supply, shortfall, shortfallOver}
 use Rattle.timetable.proofs.Cycle.{kept-for-ever}
 use Rattle.timetable.proofs.Owner.{serves-before, serves-from, owner-serves}
 use Rattle.timetable.proofs.Ranges.{InRange, period-whole}
@@ -24,7 +24,7 @@ use Rattle.timetable.proofs.Sound.{Sound}
 use Rattle.timetable.specs.declared.Entry.{Entry}
 use Rattle.timetable.specs.declared.Timetable.{Timetable}
 use Rattle.timetable.specs.History.{History, present, inForce, newlyListed, runOf}
-use Rattle.timetable.specs.Timetable.{noEntry, emptyTimetable, entryOf, isListed, lists, weight, cyclic, serves, ownerAt, shortfallAfter, shortfallAt, startShortfall, transitionShortfall}
+use Rattle.timetable.specs.Timetable.{noEntry, emptyTimetable, entryOf, isListed, lists, weight, cyclic, serves, ownerAt, shortfallAfter, slicesAfter, shortfallAt, startShortfall, transitionShortfall}
 
 -- A timetable that continues another: it is sound, starts at the other's base or later, and walks its transition from the other's shortfalls,
 -- every bound kept on the way, to the shortfalls that it keeps for its base.
@@ -93,7 +93,7 @@ module _ (t : Timetable) (h : History) where
   -- ---- the slots from the request slot on
 
   -- They are the timetable's own.
-  own-is : Sound t → (i x : ℕ) → i < IDS → t .request .0 ≤ x → own (runOf (t ∷ h)) i x ≡ serves t (coreSlot x) i
+  pub own-is : Sound t → (i x : ℕ) → i < IDS → t .request .0 ≤ x → own (runOf (t ∷ h)) i x ≡ serves t (coreSlot x) i
   unfolding runOf own
   own-is s i x k l = ap (λ (u : Timetable). isOwner i (ownerAt u (coreSlot x))) (in-force x l) ∙ owner-serves t (s .apart) x i k
 
@@ -244,3 +244,16 @@ kept-run (t ∷ h) v i x w = at (decLt x (t .request .0)) (λ y. kept-run h (v .
         let s = shortfall-suc (runOf (t ∷ h)) i x (newly-after t h (suc x) i (omega arith)) in
         subst (λ (y : ℕ). shortfallOver (runOf (t ∷ h)) i x < WHOLE * y) (sym (bound-is t h i x m))
         (subst (λ (y : ℕ). y < WHOLE * entryOf (t .entries) i .bound) s q)
+
+-- The slices that a listed id has had since the base are the run's supply from there.
+pub slices-run : (h : History) → Valid h → (i : ℕ) → i < IDS → lists (present h) i ≡ true → (n : ℕ)
+    → supply (runOf h) i (present h .base .0) n ≡ slicesAfter (entryOf (present h .entries) i) n
+unfolding present supply slicesAfter
+slices-run [] v i k l n = absurd (true-false l (empty-lists i))
+slices-run (t ∷ h) v i k l zero = refl
+slices-run (t ∷ h) v i k l (suc n) =
+    let b : ℕ = t .base .0 in
+    let o : own (runOf (t ∷ h)) i (b + n) ≡ cyclic (entryOf (t .entries) i) n =
+    own-is t h (v .0 .sound) i (b + n) k (omega (arith, v .0 .sound .base)) ∙ serves-from t (b + n) i (omega arith)
+    ∙ ap (cyclic (entryOf (t .entries) i)) (omega arith) in
+    ap₂ (λ (x : ℕ) (c : Bool). x + one c) (slices-run (t ∷ h) v i k l n) o

@@ -31,9 +31,9 @@ walk-agree a b i w s (suc n) h =
 
 module _ (plan : Plan) (f : Fit 0 plan) where
   -- The plan one slot before, and the step from it.
-  before : (n : ℕ) (q : Plan) → reach plan (suc n) ≡ some q → (p : Plan) × (reach plan n ≡ some p) × Step n p q
+  pub step-before : (n : ℕ) (q : Plan) → reach plan (suc n) ≡ some q → (p : Plan) × (reach plan n ≡ some p) × Step n p q
   unfolding onward
-  before n q e = at (reach plan n) refl (sym (reach-last n 0 plan) ∙ e)
+  step-before n q e = at (reach plan n) refl (sym (reach-last n 0 plan) ∙ e)
     where
       step : (p : Plan) → (o : Option Plan) → Longer n p o → o ≡ some q → Step n p q
       step p none l z = absurd (let y : _≡_ {A = ℕ} 0 1 = cc in omega arith)
@@ -45,6 +45,13 @@ module _ (plan : Plan) (f : Fit 0 plan) where
           let k : longer n p ≡ some q = ap (λ (x : ℕ). longer x p) (omega arith) ∙ y in
           (p, z, step p (longer n p) (longer-told n p) k)
 
+  -- What a length reaches, every shorter one does.
+  pub reach-before : (k j : ℕ) (p : Plan) → reach plan (k + j) ≡ some p → (x : Plan) × (reach plan k ≡ some x)
+  reach-before k zero p e = (p, ap (reach plan) (sym (add-zero k)) ∙ e)
+  reach-before k (suc j) p e =
+      let w = step-before (k + j) p (ap (reach plan) (sym (add-suc k j)) ∙ e) in
+      reach-before k j (w .0) (w .1)
+
   -- A slot's owner stays, once it is given.
   pub owners-stay : (n j : ℕ) (p q : Plan) → reach plan n ≡ some p → reach plan (n + j) ≡ some q → (m : ℕ) → m < n
       → getD (q .owners) m 0 ≡ getD (p .owners) m 0
@@ -53,7 +60,7 @@ module _ (plan : Plan) (f : Fit 0 plan) where
       let z : q ≡ p = cc in
       ap (λ (x : Plan). getD (x .owners) m 0) z
   owners-stay n (suc j) p q a b m k =
-      let w = before (n + j) q (ap (reach plan) (sym (add-suc n j)) ∙ b) in
+      let w = step-before (n + j) q (ap (reach plan) (sym (add-suc n j)) ∙ b) in
       ap (λ (x : Plan). getD (x .owners) m 0) (w .2 .is)
       ∙ getD-set-other (w .0 .owners) (n + j) m (w .2 .u) 0 (omega arith)
       ∙ owners-stay n j p (w .0) a (w .1) m k
@@ -68,7 +75,7 @@ module _ (plan : Plan) (f : Fit 0 plan) where
   walked zero l q e i k =
       let z : plan ≡ q = cc in
       ap (λ (x : Plan). entryOf (x .entries) i) (sym z)
-  walked (suc n) l q e i k = at (before n q e) (λ p r. walked n (omega arith) p r i k)
+  walked (suc n) l q e i k = at (step-before n q e) (λ p r. walked n (omega arith) p r i k)
     where
       s : Entry
       s = entryOf (plan .entries) i

@@ -1,0 +1,209 @@
+-- Each promise of specs/Promises.antt, kept. Assumes nothing.
+use borrow.Author.Tests.{le-ltb, lt-leb, le-leb}
+use lib.Dec.{leb, ltb}
+use lib.ListN.{drop, getD, length, length-append, length-drop}
+use lib.Seq.{getD-append-add, getD-drop}
+use mathlib.Core.Bool.{Bool, true, false, cond, not}
+use mathlib.Core.List.{List, [], _++_}
+use mathlib.Core.Logic.{_↔_, _≢_, _⊎_, inl, inr}
+use mathlib.Core.Option.{Option, none, some}
+use mathlib.Core.Path.{_≡_, refl, sym, ap, ap₂, _∙_, subst}
+use native.Mathlib.Nat.{add-sub-of-le}
+use native.Mathlib.Omega.{arith}
+use Prim.Native.Nat.{ℕ, zero, suc, _+_, _-_, _*_, _≤_, _<_}
+use Rattle.change.proofs.Answers.{Gets, Passes, refused, accepted, no-slot, no-length, gets, accepted-continues}
+use Rattle.change.proofs.Histories.{history-valid}
+use Rattle.change.proofs.Stages.{stages, stages-only}
+use Rattle.change.specs.Change.{Answer, answer, answerTo, answerOf, outcome, areaAfter, refuse, searchOf, startPlan}
+use Rattle.change.specs.Controller.{Sent, historyOf}
+use Rattle.change.specs.Queries.{ownerNumber, ownerQuery, standing, standingQuery}
+use Rattle.change.specs.Refused.{Refuses, passes}
+use Rattle.change.specs.Stages.{refusalBefore}
+use Rattle.placement.proofs.Complete.{placement-none, placement-some}
+use Rattle.placement.specs.Any.{CyclicPlacement}
+use Rattle.placement.specs.Placement.{Place, placement, settle}
+use Rattle.promises.proofs.Lengths.{accepted-iff, refused-iff}
+use Rattle.promises.specs.Promises.{SoundStays, Windows, OneOwner, PlacementComplete, Shortest, Tries, Stages, OneForm, KeptShortfall, Queries}
+use Rattle.records.proofs.AnswerLaws.{answer-length}
+use Rattle.records.proofs.OneForm.{one-form}
+use Rattle.records.proofs.ReadLaws.{read-in-range, refused-in-range}
+use Rattle.records.proofs.ReadSteps.{request-read, request-is}
+use Rattle.records.proofs.RoundTrip.{round-trip}
+use Rattle.records.specs.declared.ReadRequest.{ReadRequest}
+use Rattle.records.specs.declared.Refusal.{Refusal}
+use Rattle.records.specs.Numbers.{ACCEPTED}
+use Rattle.records.specs.Request.{readRequest}
+use Rattle.slots.proofs.Below.{count-most}
+use Rattle.slots.proofs.Windows.{Attains, attains, kept-windows, window-le}
+use Rattle.slots.specs.Below.{count}
+use Rattle.slots.specs.Clocks.{coreSlot, sliceCount}
+use Rattle.slots.specs.Limits.{IDS, WHOLE, AREA, LAST-SLOT}
+use Rattle.slots.specs.Slots.{entitlement, supply, shortfall, Since, Listed}
+use Rattle.timetable.proofs.Listing.{empty-sound, in-force-sound, present-in-force, present-sound, since-weights}
+use Rattle.timetable.proofs.Owner.{serves-one}
+use Rattle.timetable.proofs.Run.{kept-run, present-run, slices-run}
+use Rattle.timetable.proofs.Sound.{ranged-from, sound-is}
+use Rattle.timetable.specs.declared.Entry.{Entry}
+use Rattle.timetable.specs.declared.Timetable.{Timetable}
+use Rattle.timetable.specs.History.{History, present, inForce, runOf}
+use Rattle.timetable.specs.Sound.{entriesInRange, isSound}
+use Rattle.timetable.specs.Timetable.{entryOf, lists, ownerAt, shortfallAt, slicesAt}
+use Rattle.transition.proofs.Reach.{tries-count}
+use Rattle.transition.specs.Reach.{isSearched}
+
+-- ---- 1
+
+-- What a request gets, as far as the area and the timetable go.
+record Held (t : Timetable) (area : ℕ) (a : Answer) : Type 0 where
+  short : length (a .bytes) ≤ AREA
+  fits : length (a .bytes) ≤ area
+  refused : a .number ≢ ACCEPTED → (a .timetable ≡ t) × (a .bytes ≡ [])
+
+-- A request that passes has a large enough area.
+area-enough : (t : Timetable) (read : ReadRequest) (area : ℕ) → refusalBefore t read area ≡ none → AREA ≤ area
+area-enough t read area e = at (subst (Refuses t read area) e (stages t read area))
+  where
+    at : Refuses t read area none → AREA ≤ area
+    at (passes s a w l f g) = a
+
+held : (t : Timetable) (s : List ℕ) (area : ℕ) → Held t area (answer t s area)
+unfolding refuse
+held t s area = at (answer t s area) (gets t s area)
+  where
+    at : (a : Answer) → Gets t s area a → Held t area a
+    at a (refused q e l h) = record { short = omega arith; fits = omega arith; refused = λ n. (refl, refl) }
+    at a (accepted e p k l b q h ps f) =
+        let m = answer-length k (q .owners) _ (omega (arith, p .range .limit)) in
+        record { short = m; fits = omega (arith, area-enough t (readRequest s) area e); refused = λ n. absurd (n refl) }
+    at a (no-slot e p k l b q h f) = record { short = omega arith; fits = omega arith; refused = λ n. (refl, refl) }
+    at a (no-length e p b) = record { short = omega arith; fits = omega arith; refused = λ n. (refl, refl) }
+
+pub sound-stays : SoundStays
+unfolding outcome areaAfter
+sound-stays = record {
+  empty = empty-sound;
+  accepted = λ t s area e. sound-is _ (accepted-continues t s (length area) e .sound);
+  refused = λ t s area n.
+      let h = held t s (length area) .refused n in
+      (h .0, ap length (h .1), ap (λ (bs : List ℕ). bs ++ drop (length bs) area) (h .1));
+  short = λ t s area. held t s (length area) .short;
+  size = λ t s area.
+      length-append (answer t s (length area) .bytes) _
+      ∙ omega (arith, length-drop (length (answer t s (length area) .bytes)) area, held t s (length area) .fits);
+  rest = λ t s area n l. after (answer t s (length area) .bytes) area n l;
+}
+  where
+    after : (bs area : List ℕ) (n : ℕ) → length bs ≤ n → getD (bs ++ drop (length bs) area) n 0 ≡ getD area n 0
+    after bs area n l =
+        let m : ℕ = n - length bs in
+        ap (λ (x : ℕ). getD (bs ++ drop (length bs) area) x 0) (sym (add-sub-of-le l))
+        ∙ getD-append-add bs (drop (length bs) area) m 0
+        ∙ getD-drop (length bs) area m 0
+        ∙ ap (λ (x : ℕ). getD area x 0) (add-sub-of-le l)
+
+-- ---- 2 and 3
+
+pub windows : Windows
+windows sent i a n listed since =
+    let h = historyOf sent in
+    kept-windows (runOf h) i a n (kept-run h (history-valid sent) i (a + n) (listed n (omega arith))) since
+
+pub one-owner : OneOwner
+one-owner sent x i j ki kj p q =
+    let h = historyOf sent in
+    serves-one (inForce h x) (in-force-sound h (history-valid sent) x .0 .apart) x i j ki kj p q
+
+-- ---- 4
+
+pub placement-complete : PlacementComplete
+placement-complete = record {
+  fails = λ es len h. (placement-none es (ranged-from es h), λ n. at es len h (placement es) refl n);
+  succeeds = λ es len h ps e. placement-some es (ranged-from es h) len ps e;
+}
+  where
+    at : (es : List Entry) → length es ≡ IDS → entriesInRange es ≡ true → (o : Option (List Place)) → placement es ≡ o
+        → ((offsets : ℕ → ℕ) → CyclicPlacement es offsets → ⊥) → placement es ≡ none
+    at es len h none e n = e
+    at es len h (some ps) e n = absurd (n _ (placement-some es (ranged-from es h) len ps e))
+
+-- ---- 5 and 6
+
+pub shortest : Shortest
+shortest = record { accepted = accepted-iff; refused = refused-iff }
+
+-- The answer of a request that passes the stages is that of its search.
+searched : (t : Timetable) (s : List ℕ) (area : ℕ) → refusalBefore t (readRequest s) area ≡ none
+    → answer t s area ≡ answerOf t (readRequest s .request) (searchOf t (readRequest s .request))
+unfolding answer answerTo
+searched t s area e =
+    ap (λ (o : Option Refusal). elim o as (λ _. Answer) [
+      | none ↦ answerOf t (readRequest s .request) (searchOf t (readRequest s .request))
+      | some r ↦ refuse t r
+    ]) e
+
+pub tries : Tries
+unfolding answerOf searchOf refuse answer answerTo
+tries = record {
+  before = λ t s area r e.
+      ap (λ (o : Option Refusal). (elim o as (λ _. Answer) [
+        | none ↦ answerOf t (readRequest s .request) (searchOf t (readRequest s .request))
+        | some r ↦ refuse t r
+      ]) .tries) e;
+  counted = counted;
+  few = λ t s area e. subst (λ (x : ℕ). x ≤ suc (readRequest s .request .limit)) (sym (counted t s area e)) (count-most _ (suc (readRequest s .request .limit)));
+}
+  where
+    counted : (t : Timetable) (s : List ℕ) (area : ℕ) → refusalBefore t (readRequest s) area ≡ none
+        → answer t s area .tries ≡ count (suc (readRequest s .request .limit)) (isSearched (startPlan t (readRequest s .request)))
+    counted t s area e =
+        ap (λ (a : Answer). a .tries) (searched t s area e) ∙ tries-count (startPlan t (readRequest s .request)) (readRequest s .request .limit)
+
+-- ---- 7 and 8
+
+pub stages-kept : Stages
+stages-kept = record { given = stages; only = stages-only; fields = request-read; fields-only = request-is }
+
+pub one-form-kept : OneForm
+one-form-kept = record { one = one-form; back = round-trip; range = read-in-range; damaged = refused-in-range }
+
+-- ---- 9
+
+pub kept-shortfall : KeptShortfall
+kept-shortfall = record {
+  most = λ sent i a n k l b since.
+      let h = historyOf sent in
+      subst (λ (x : ℕ). entitlement (runOf h) i a n ≤ WHOLE * supply (runOf h) i a n + x)
+      (present-run h (history-valid sent) i k l (a + n) b)
+      (window-le (runOf h) i a n since);
+  attained = λ sent i x k l b.
+      let h = historyOf sent in
+      let v = history-valid sent in
+      let w = attains (runOf h) i x in
+      let f : inForce h (w .from + w .size) ≡ present h =
+      present-in-force h (w .from + w .size) (omega (arith, w .ends, present-sound h v .0 .base)) in (
+        w .from,
+        w .size,
+        w .ends,
+        w .since,
+        since-weights h v i (w .from) (w .size) k (w .since) (ap (λ (t : Timetable). lists t i) f ∙ l),
+        w .equal ∙ ap (λ (y : ℕ). WHOLE * supply (runOf h) i (w .from) (w .size) + y) (present-run h v i k l x b),
+      );
+}
+
+-- ---- 10
+
+pub queries : Queries
+unfolding ownerQuery standingQuery standing slicesAt runOf
+queries = record {
+  owner = λ sent x l b.
+      let h = historyOf sent in
+      rw (sound-is _ (present-sound h (history-valid sent) .0), le-ltb LAST-SLOT x l, le-ltb x (present h .request .0) b)
+      (ap (λ (t : Timetable). record { number = ACCEPTED; place = 0; owner = ownerNumber (ownerAt t (coreSlot x)) }) (sym (present-in-force h x b)));
+  standing = λ sent i x k l b li.
+      let h = historyOf sent in
+      let v = history-valid sent in
+      rw (sound-is _ (present-sound h v .0), lt-leb IDS i k, le-ltb LAST-SLOT x l, le-ltb x (present h .base .0) b, li)
+      (ap₂ (λ (a n : ℕ). record { number = ACCEPTED; place = 0; shortfall = a; slices = sliceCount n })
+      (sym (present-run h v i k li x b))
+      (sym (slices-run h v i k li (x - present h .base .0))));
+}

@@ -1,0 +1,215 @@
+-- Lengths in demand 3's words: rule 4 fails at a length exactly if the length is passed over, and a slot that the urgent rule cannot give breaks a bound
+-- whoever gets it. Assumes nothing.
+use lib.ListN.{length}
+use mathlib.Core.Bool.{Bool, true, false}
+use mathlib.Core.List.{List}
+use mathlib.Core.Logic.{_↔_, _⊎_, inl, inr}
+use mathlib.Core.Option.{Option, none, some}
+use mathlib.Core.Path.{_≡_, refl, sym, ap, _∙_, subst}
+use native.Mathlib.Decide.{decLt, decLe, ℕ-discrete}
+use native.Mathlib.Nat.{zero-add}
+use native.Mathlib.Omega.{arith}
+use lib.Dec.{eqb}
+use Prim.Native.Nat.{ℕ, zero, suc, _+_, _-_, _*_, _≤_, _<_}
+use Rattle.change.proofs.Answers.{Gets, Passes, refused, accepted, no-slot, no-length, gets, acceptedAs, refusedAs}
+use Rattle.change.proofs.Start.{start-fit}
+use Rattle.change.specs.Change.{Answer, newTimetable, answer, startPlan, refuse}
+use Rattle.change.specs.Stages.{refusalBefore}
+use Rattle.placement.proofs.Complete.{placement-none, placement-some}
+use Rattle.placement.specs.Any.{Lists, CyclicPlacement}
+use Rattle.placement.specs.Placement.{Place, placement, settle}
+use Rattle.records.specs.declared.Refusal.{Refusal}
+use Rattle.records.specs.declared.Request.{Request}
+use Rattle.records.specs.Numbers.{ACCEPTED, NO-SCHEDULE}
+use Rattle.records.specs.Request.{readRequest}
+use Rattle.slots.proofs.Below.{true-false}
+use Rattle.slots.specs.Limits.{IDS, LONGEST, WHOLE}
+use Rattle.slots.specs.Shortfall.{overSlot}
+use Rattle.slots.specs.Slots.{isOwner}
+use Rattle.timetable.proofs.Ranges.{InRange}
+use Rattle.timetable.specs.declared.Entry.{Entry}
+use Rattle.timetable.specs.declared.Timetable.{Timetable}
+use Rattle.timetable.specs.Timetable.{entryOf, isListed, weight}
+use Rattle.transition.proofs.Plans.{Fit, Step, Longer, longer-told, step-fit, over-at, over-listed, overEntry}
+use Rattle.transition.proofs.Reach.{reach-fit, reach-past}
+use Rattle.transition.proofs.Search.{PassedFirst}
+use Rattle.transition.proofs.Urgent.{missed-breaks}
+use Rattle.transition.proofs.Walk.{step-before, reach-before}
+use Rattle.transition.specs.declared.Plan.{Plan}
+use Rattle.transition.specs.Reach.{reach, AnyoneBreaks, PassedOver, HasPlacement, CannotReach}
+use Rattle.transition.specs.Transition.{longer, overAll}
+
+-- Two plans that one length reaches are the same.
+same-plan : (o : Option Plan) (p q : Plan) → o ≡ some p → o ≡ some q → p ≡ q
+same-plan o p q a b = cc
+
+-- A length that is reached is not out of reach.
+not-both : (o : Option Plan) (p : Plan) → o ≡ some p → o ≡ none → ⊥
+not-both o p a b = let z : _≡_ {A = ℕ} 0 1 = cc in omega arith
+
+-- Rule 4 does not both fail and succeed.
+not-placed : (o : Option (List Place)) (ps : List Place) → o ≡ some ps → o ≡ none → ⊥
+not-placed o ps a b = let z : _≡_ {A = ℕ} 0 1 = cc in omega arith
+
+module _ (plan : Plan) (fit : Fit 0 plan) where
+  fit-at : (n : ℕ) → n ≤ LONGEST → (p : Plan) → reach plan n ≡ some p → Fit n p
+  fit-at n l p e = subst (λ (m : ℕ). Fit m p) (zero-add n) (reach-fit n 0 plan p fit (omega arith) e)
+
+  -- A length where rule 4 fails is passed over, and it fails where a length is.
+  passed-over : (n : ℕ) → n ≤ LONGEST → (p : Plan) → reach plan n ≡ some p → placement (p .entries) ≡ none → PassedOver plan n
+  passed-over n l p e z = (p, e, placement-none (p .entries) (fit-at n l p e .ranged) z)
+
+  placed-not-passed : (n : ℕ) → n ≤ LONGEST → (p : Plan) → reach plan n ≡ some p → (ps : List Place) → placement (p .entries) ≡ some ps
+      → PassedOver plan n → ⊥
+  placed-not-passed n l p e ps z w =
+      let f = fit-at n l p e in
+      let q : w .0 ≡ p = same-plan (reach plan n) (w .0) p (w .1) e in
+      let c = placement-some (p .entries) (f .ranged) (f .entries) ps z in
+      w .2 (λ i. entryOf (settle (p .entries) ps) i .offset) (subst (λ (x : Plan). CyclicPlacement (x .entries) (λ i. entryOf (settle (p .entries) ps) i .offset)) (sym q) c)
+
+  has-placement : (n : ℕ) → n ≤ LONGEST → (p : Plan) → reach plan n ≡ some p → (ps : List Place) → placement (p .entries) ≡ some ps
+      → HasPlacement plan n
+  has-placement n l p e ps z =
+      let f = fit-at n l p e in
+      (p, e, ((λ i. entryOf (settle (p .entries) ps) i .offset), placement-some (p .entries) (f .ranged) (f .entries) ps z))
+
+  -- A length with a placement is not one where rule 4 fails.
+  has-not-none : (n : ℕ) → n ≤ LONGEST → (p : Plan) → reach plan n ≡ some p → placement (p .entries) ≡ none → HasPlacement plan n → ⊥
+  unfolding passed-over
+  has-not-none n l p e z w =
+      let q : w .0 ≡ p = same-plan (reach plan n) (w .0) p (w .1) e in
+      passed-over n l p e z .2 (w .2 .0) (subst (λ (x : Plan). CyclicPlacement (x .entries) (w .2 .0)) q (w .2 .1))
+
+  -- Past a slot that the urgent rule cannot give, nothing can be reached.
+  cannot-reach : (k n : ℕ) → k < n → k ≤ LONGEST → (p : Plan) → reach plan k ≡ some p → placement (p .entries) ≡ none → longer k p ≡ none → CannotReach plan n
+  cannot-reach k n l m p e z h = (k, l, p, e, at (longer k p) h (longer-told k p))
+    where
+      f : Fit k p
+      f = fit-at k m p e
+
+      -- with nobody listed every choice of offsets is a placement
+      nobody : ((i : ℕ) → i < IDS → isListed (entryOf (p .entries) i) ≡ false) → ⊥
+      nobody n =
+          placement-none (p .entries) (f .ranged) z (λ i. 0)
+          (record {
+            below = λ i w. absurd (true-false (w .1) (n i (w .0)));
+            apart = λ i j w _ _ _ _ _. true-false (w .1) (n i (w .0));
+            kept = λ i w _. absurd (true-false (w .1) (n i (w .0)));
+          })
+
+      at : (o : Option Plan) → o ≡ none → Longer k p o → AnyoneBreaks (p .entries)
+      at none q (inl n) = absurd (nobody n)
+      at none q (inr w) = missed-breaks (p .entries) (f .ranged) (w .0) (w .1) (w .2)
+      at (some x) q w = absurd (let y : _≡_ {A = ℕ} 0 1 = cc in omega arith)
+
+  -- A length that is reached can be reached: each slot before it was given with every bound kept.
+  reached-not-cannot : (n : ℕ) → n ≤ LONGEST → (p : Plan) → reach plan n ≡ some p → CannotReach plan n → ⊥
+  unfolding isOwner
+  reached-not-cannot n l p e c =
+      let k : ℕ = c .0 in
+      let x = reach-before plan fit (suc k) (n - suc k) p (ap (reach plan) (omega (arith, c .1)) ∙ e) in
+      let w = step-before plan fit k (x .0) (x .1) in
+      let f = fit-at k (omega (arith, c .1)) (w .0) (w .1) in
+      let g = step-fit k (w .0) (x .0) (omega (arith, c .1)) f (w .2) in
+      let q : c .2 ≡ w .0 = same-plan (reach plan k) (c .2) (w .0) (c .3) (w .1) in
+      at (w .0) (x .0) f g (w .2) (subst (λ (y : Plan). AnyoneBreaks (y .entries)) q (c .4) (some (w .2 .u)))
+    where
+      at : (y z : Plan) → Fit (c .0) y → Fit (suc (c .0)) z → (st : Step (c .0) y z)
+          → (i : ℕ) × Lists (y .entries) i × (WHOLE * entryOf (y .entries) i .bound ≤ overSlot (eqb i (st .u)) (weight (entryOf (y .entries) i)) (entryOf (y .entries) i .shortfall))
+          → ⊥
+      at y z f g st b =
+          let i : ℕ = b .0 in
+          let k : i < IDS = b .1 .0 in
+          let e : entryOf (z .entries) i ≡ overEntry (eqb i (st .u)) (entryOf (y .entries) i) =
+          ap (λ (w : Plan). entryOf (w .entries) i) (st .is) ∙ over-at (y .entries) (st .u) (f .entries) i k in
+          let r : InRange (overEntry (eqb i (st .u)) (entryOf (y .entries) i)) = subst InRange e (g .ranged .listed i k (ap isListed e ∙ b .1 .1)) in
+          omega (arith, r .kept, b .2)
+
+-- ---- the answer
+
+module _ (t : Timetable) (s : List ℕ) (area : ℕ) (pass : refusalBefore t (readRequest s) area ≡ none) where
+  abbrev r : Request
+  r = readRequest s .request
+
+  abbrev plan : Plan
+  plan = startPlan t r
+
+  fit : Passes t r → Fit 0 plan
+  fit p = start-fit t r (p .range) (p .fine)
+
+  -- A refusal before the search is none of a request that passes.
+  not-refused : (q : Refusal) → refusalBefore t (readRequest s) area ≡ some q → ⊥
+  not-refused q e = let z : _≡_ {A = ℕ} 0 1 = cc in omega arith
+
+  -- The first k lengths passed over, in demand 3's words.
+  all-passed : Passes t r → (k : ℕ) → k ≤ suc LONGEST → PassedFirst k 0 plan → (m : ℕ) → m < k → PassedOver plan m
+  all-passed p k l h m q = let w = h m q in passed-over plan (fit p) m (omega arith) (w .0) (w .1) (w .2)
+
+  -- Where the first k lengths are passed over, one with a placement is none of them.
+  none-has : Passes t r → (k : ℕ) → k ≤ suc LONGEST → PassedFirst k 0 plan → (n : ℕ) → n < k → HasPlacement plan n → ⊥
+  none-has p k l h n q w = let x = h n q in has-not-none plan (fit p) n (omega arith) (x .0) (x .1) (x .2) w
+
+  abbrev Accepted : ℕ → Answer → Type 0
+  Accepted n a = (a .number ≡ ACCEPTED) × (a .timetable .length ≡ n)
+
+  abbrev Schedule : ℕ → Type 0
+  Schedule n = (n ≤ r .limit) × HasPlacement plan n × ((m : ℕ) → m < n → PassedOver plan m)
+
+  accepted-to : (n : ℕ) (a : Answer) → Gets t s area a → Accepted n a → Schedule n
+  unfolding refuse newTimetable
+  accepted-to n a (refused q e l h) z = absurd (not-refused q e)
+  accepted-to n a (accepted e p k l b q h ps f) z =
+      let m : k ≤ LONGEST = omega (arith, p .range .limit) in
+      subst (λ (x : ℕ). Schedule x) (z .1) (l, has-placement plan (fit p) k m q h ps f, all-passed p k (omega arith) b)
+  accepted-to n a (no-slot e p k l b q h f) z = absurd (omega (arith, z .0))
+  accepted-to n a (no-length e p b) z = absurd (omega (arith, z .0))
+
+  accepted-from : (n : ℕ) (a : Answer) → Gets t s area a → Schedule n → Accepted n a
+  unfolding newTimetable
+  accepted-from n a (refused q e l h) w = absurd (not-refused q e)
+  accepted-from n a (accepted e p k l b q h ps f) w =
+      let m : k ≤ LONGEST = omega (arith, p .range .limit) in
+      let x : ¬ (k < n) = λ y. placed-not-passed plan (fit p) k m q h ps f (w .2 k y) in
+      let y : ¬ (n < k) = λ z. none-has p k (omega arith) b n z (w .1) in
+      (refl, omega arith)
+  accepted-from n a (no-slot e p k l b q h f) w = absurd (at (decLt n (suc k)))
+    where
+      at : Dec (n < suc k) → ⊥
+      at (yes z) = none-has p (suc k) (omega (arith, p .range .limit)) b n z (w .1)
+      at (no z) =
+          not-both (reach plan n) (w .1 .0) (w .1 .1)
+          (reach-past k 0 plan q h (ap (λ (x : ℕ). longer x q) (zero-add k) ∙ f) n (omega arith))
+  accepted-from n a (no-length e p b) w = absurd (none-has p (suc (r .limit)) (omega (arith, p .range .limit)) b n (omega (arith, w .0)) (w .1))
+
+  pub accepted-iff : (n : ℕ) → Accepted n (answer t s area) ↔ Schedule n
+  accepted-iff n = (accepted-to n (answer t s area) (gets t s area), accepted-from n (answer t s area) (gets t s area))
+
+  abbrev Wanting : Type 0
+  Wanting = (n : ℕ) → n ≤ r .limit → PassedOver plan n ⊎ CannotReach plan n
+
+  refused-to : (a : Answer) → Gets t s area a → a .number ≡ NO-SCHEDULE → Wanting
+  unfolding refuse
+  refused-to a (refused q e l h) z n m = absurd (not-refused q e)
+  refused-to a (accepted e p k l b q h ps f) z n m = absurd (omega arith)
+  refused-to a (no-slot e p k l b q h f) z n m = at (decLt n (suc k))
+    where
+      at : Dec (n < suc k) → PassedOver plan n ⊎ CannotReach plan n
+      at (yes x) = inl (all-passed p (suc k) (omega (arith, p .range .limit)) b n x)
+      at (no x) =
+          let w = b k (omega arith) in
+          let y : w .0 ≡ q = same-plan (reach plan k) (w .0) q (w .1) h in
+          inr (cannot-reach plan (fit p) k n (omega arith) (omega (arith, p .range .limit)) q h (subst (λ (x : Plan). placement (x .entries) ≡ none) y (w .2)) f)
+  refused-to a (no-length e p b) z n m = inl (all-passed p (suc (r .limit)) (omega (arith, p .range .limit)) b n (omega arith))
+
+  refused-from : (a : Answer) → Gets t s area a → Wanting → a .number ≡ NO-SCHEDULE
+  refused-from a (refused q e l h) w = absurd (not-refused q e)
+  refused-from a (accepted e p k l b q h ps f) w = absurd (at (w k l))
+    where
+      at : PassedOver plan k ⊎ CannotReach plan k → ⊥
+      at (inl x) = placed-not-passed plan (fit p) k (omega (arith, p .range .limit)) q h ps f x
+      at (inr x) = reached-not-cannot plan (fit p) k (omega (arith, p .range .limit)) q h x
+  refused-from a (no-slot e p k l b q h f) w = refl
+  refused-from a (no-length e p b) w = refl
+
+  pub refused-iff : (answer t s area .number ≡ NO-SCHEDULE) ↔ Wanting
+  refused-iff = (refused-to (answer t s area) (gets t s area), refused-from (answer t s area) (gets t s area))

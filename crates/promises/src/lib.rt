@@ -1,0 +1,1 @@
+// The promises of document 01: statements in specs/, their proofs in proofs/.
