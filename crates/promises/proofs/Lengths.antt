@@ -33,7 +33,7 @@ use Rattle.timetable.specs.Timetable.{entryOf, isListed, weight}
 use Rattle.transition.proofs.Plans.{Fit, Step, Longer, longer-told, step-fit, over-at, over-listed, overEntry}
 use Rattle.transition.proofs.Reach.{reach-fit, reach-past}
 use Rattle.transition.proofs.Search.{PassedFirst}
-use Rattle.transition.proofs.Urgent.{missed-breaks}
+use Rattle.transition.proofs.UrgentRule.{missed-breaks}
 use Rattle.transition.proofs.Walk.{step-before, reach-before}
 use Rattle.transition.specs.declared.Plan.{Plan}
 use Rattle.transition.specs.Reach.{reach, AnyoneBreaks, PassedOver, HasPlacement, CannotReach}

@@ -1,4 +1,4 @@
-pub mod Urgent
+pub mod UrgentRule
 pub mod Plans
 pub mod Search
 pub mod Reach

@@ -20,7 +20,7 @@ use Rattle.timetable.proofs.Ranges.{InRange}
 use Rattle.timetable.proofs.Sound.{Ranged}
 use Rattle.timetable.specs.declared.Entry.{Entry}
 use Rattle.timetable.specs.Timetable.{noEntry, entryOf, isListed, weight, room, withShortfall}
-use Rattle.transition.proofs.Urgent.{MostUrgent, Told, told, unmissed, room-bears, own-bears}
+use Rattle.transition.proofs.UrgentRule.{MostUrgent, Told, told, unmissed, room-bears, own-bears}
 use Rattle.transition.specs.declared.Plan.{Plan}
 use Rattle.transition.specs.Transition.{mostUrgent, isMissed, overAll, longer}
 
