@@ -93,16 +93,18 @@ answerTo t read area =
 unfoldable pub answer : Timetable → List ℕ → ℕ → Answer
 answer t s area = answerTo t (readRequest s) area
 
--- The outcome: the answer, with the number of bytes written.
-unfoldable pub outcome : Timetable → List ℕ → List ℕ → Outcome
-outcome t s area = record {
-  number = answer t s (length area) .number;
-  place = answer t s (length area) .place;
-  tries = answer t s (length area) .tries;
-  written = length (answer t s (length area) .bytes);
-  timetable = answer t s (length area) .timetable;
-}
+-- An answer as it is returned: with the number of bytes written.
+unfoldable pub outcomeOf : Answer → Outcome
+outcomeOf a = record { number = a .number; place = a .place; tries = a .tries; written = length (a .bytes); timetable = a .timetable }
 
--- The answer area afterwards: the record, and the bytes after it as they were. (A refusal has no record, so no byte changes.)
+-- An answer written to an area: its record, and the bytes after it as they were. (A refusal has no record, so no byte changes.)
+unfoldable pub written : Answer → List ℕ → List ℕ
+written a area = a .bytes ++ drop (length (a .bytes)) area
+
+-- What a request with the bytes s and an answer area returns.
+unfoldable pub outcome : Timetable → List ℕ → List ℕ → Outcome
+outcome t s area = outcomeOf (answer t s (length area))
+
+-- The answer area afterwards.
 unfoldable pub areaAfter : Timetable → List ℕ → List ℕ → List ℕ
-areaAfter t s area = answer t s (length area) .bytes ++ drop (length (answer t s (length area) .bytes)) area
+areaAfter t s area = written (answer t s (length area)) area

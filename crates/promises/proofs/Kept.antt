@@ -14,7 +14,7 @@ use Prim.Native.Nat.{ℕ, zero, suc, _+_, _-_, _*_, _≤_, _<_}
 use Rattle.change.proofs.Answers.{Gets, Passes, refused, accepted, no-slot, no-length, gets, accepted-continues}
 use Rattle.change.proofs.Histories.{history-valid}
 use Rattle.change.proofs.Stages.{stages, stages-only}
-use Rattle.change.specs.Change.{Answer, answer, answerTo, answerOf, outcome, areaAfter, refuse, searchOf, startPlan}
+use Rattle.change.specs.Change.{Answer, answer, answerTo, answerOf, outcomeOf, written, outcome, areaAfter, refuse, searchOf, startPlan}
 use Rattle.change.specs.Controller.{Sent, historyOf}
 use Rattle.change.specs.Queries.{ownerNumber, ownerQuery, standing, standingQuery}
 use Rattle.change.specs.Refused.{Refuses, passes}
@@ -79,7 +79,7 @@ held t s area = at (answer t s area) (gets t s area)
     at a (no-length e p b) = record { short = omega arith; fits = omega arith; refused = λ n. (refl, refl) }
 
 pub sound-stays : SoundStays
-unfolding outcome areaAfter
+unfolding outcomeOf written outcome areaAfter
 sound-stays = record {
   empty = empty-sound;
   accepted = λ t s area e. sound-is _ (accepted-continues t s (length area) e .sound);
