@@ -45,10 +45,13 @@ unfoldable pub answeredLength : Answer → ℕ
 answeredLength a = cond (eqb (a .number) ACCEPTED) (a .timetable .length) 0
 
 -- A line: ordinal, number, place, tries, transition length, one space apart.
+unfoldable pub lineOf : ℕ → ℕ → ℕ → ℕ → ℕ → List ℕ
+lineOf ordinal number place tries size =
+    decimal ordinal ++ (32 ∷ decimal number) ++ (32 ∷ decimal place) ++ (32 ∷ decimal tries) ++ (32 ∷ decimal size) ++ (10 ∷ [])
+
+-- The line of an answer.
 unfoldable pub line : ℕ → Answer → List ℕ
-line ordinal a =
-    decimal ordinal ++ (32 ∷ decimal (a .number)) ++ (32 ∷ decimal (a .place)) ++ (32 ∷ decimal (a .tries)) ++ (32 ∷ decimal (answeredLength a))
-    ++ (10 ∷ [])
+line ordinal a = lineOf ordinal (a .number) (a .place) (a .tries) (answeredLength a)
 
 -- The text `bad frame` on a line.
 abbrev pub badFrame : List ℕ
