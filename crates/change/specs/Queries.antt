@@ -1,7 +1,6 @@
 -- Document 01: the owner query and the standing query.
 use lib.Dec.{leb, ltb}
 use mathlib.Core.Bool.{cond, not}
-use mathlib.Core.Option.{Option, none, some}
 use Prim.Native.Nat.{ℕ}
 use Rattle.change.specs.declared.OwnerAnswer.{OwnerAnswer}
 use Rattle.change.specs.declared.StandingAnswer.{StandingAnswer}
@@ -10,13 +9,9 @@ use Rattle.slots.specs.Clocks.{sliceCount}
 use Rattle.slots.specs.declared.CoreSlot.{CoreSlot}
 use Rattle.slots.specs.Limits.{IDS, LAST-SLOT}
 use Rattle.timetable.specs.declared.Timetable.{Timetable}
+use Rattle.timetable.specs.Owner.{ownerNumber}
 use Rattle.timetable.specs.Sound.{isSound}
 use Rattle.timetable.specs.Timetable.{lists, ownerAt, shortfallAt, slicesAt}
-
--- The owner, or 255 for idle.
-unfoldable pub ownerNumber : Option ℕ → ℕ
-ownerNumber none = 255
-ownerNumber (some i) = i
 
 -- A refused owner query returns zeros beside its number.
 unfoldable pub refuseOwner : ℕ → OwnerAnswer

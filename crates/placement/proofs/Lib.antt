@@ -5,3 +5,7 @@ pub mod Greedy
 pub mod Last
 pub mod Settle
 pub mod Complete
+pub mod Table
+pub mod Ranking
+pub mod Asked
+pub mod Placing

@@ -1,2 +1,3 @@
 pub mod Placement
 pub mod Any
+pub mod Placed

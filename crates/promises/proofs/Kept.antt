@@ -16,7 +16,7 @@ use Rattle.change.proofs.Histories.{history-valid}
 use Rattle.change.proofs.Stages.{stages, stages-only}
 use Rattle.change.specs.Change.{Answer, answer, answerTo, answerOf, outcomeOf, written, outcome, areaAfter, refuse, searchOf, startPlan}
 use Rattle.change.specs.Controller.{Sent, historyOf}
-use Rattle.change.specs.Queries.{ownerNumber, ownerQuery, standing, standingQuery}
+use Rattle.change.specs.Queries.{ownerQuery, standing, standingQuery}
 use Rattle.change.specs.Refused.{Refuses, passes}
 use Rattle.change.specs.Stages.{refusalBefore}
 use Rattle.placement.proofs.Complete.{placement-none, placement-some}
@@ -45,6 +45,7 @@ use Rattle.timetable.proofs.Run.{kept-run, present-run, slices-run}
 use Rattle.timetable.proofs.Sound.{ranged-from, sound-is}
 use Rattle.timetable.specs.declared.Entry.{Entry}
 use Rattle.timetable.specs.declared.Timetable.{Timetable}
+use Rattle.timetable.specs.Owner.{ownerNumber}
 use Rattle.timetable.specs.History.{History, present, inForce, runOf}
 use Rattle.timetable.specs.Sound.{entriesInRange, isSound}
 use Rattle.timetable.specs.Timetable.{entryOf, lists, ownerAt, shortfallAt, slicesAt}

@@ -9,7 +9,7 @@ use mathlib.Core.Path.{_≡_}
 use Prim.Native.Nat.{ℕ, suc, _+_, _-_, _*_, _≤_, _<_}
 use Rattle.change.specs.Change.{answer, outcome, areaAfter, startPlan}
 use Rattle.change.specs.Controller.{Sent, historyOf}
-use Rattle.change.specs.Queries.{ownerNumber, ownerQuery, standingQuery}
+use Rattle.change.specs.Queries.{ownerQuery, standingQuery}
 use Rattle.change.specs.Refused.{Refuses}
 use Rattle.change.specs.Stages.{refusalBefore}
 use Rattle.placement.specs.Any.{CyclicPlacement}
@@ -30,6 +30,7 @@ use Rattle.slots.specs.Limits.{IDS, WHOLE, AREA, LAST-SLOT}
 use Rattle.slots.specs.Slots.{Run, isOwner, entitlement, supply, shortfall, Since, Listed, KeepsBound}
 use Rattle.timetable.specs.declared.Entry.{Entry}
 use Rattle.timetable.specs.declared.Timetable.{Timetable}
+use Rattle.timetable.specs.Owner.{ownerNumber}
 use Rattle.timetable.specs.History.{History, present, inForce, runOf}
 use Rattle.timetable.specs.Sound.{entriesInRange, isSound}
 use Rattle.timetable.specs.Timetable.{emptyTimetable, entryOf, lists, serves, ownerAt, shortfallAt}

@@ -6,3 +6,7 @@ pub mod Sound
 pub mod Owner
 pub mod Run
 pub mod Listing
+pub mod ScanLaws
+pub mod EntryLaws
+pub mod SoundLaws
+pub mod OwnerLaws

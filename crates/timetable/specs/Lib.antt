@@ -1,3 +1,4 @@
 pub mod Timetable
 pub mod Sound
 pub mod History
+pub mod Owner

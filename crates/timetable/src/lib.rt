@@ -3,6 +3,10 @@ ghost use mathlib.Core.Path.{_≡_};
 ghost use Rattle.timetable.specs.Timetable.{emptyTimetable};
 use slots::CoreSlot;
 
+mod figures; // figures.rt: the figures of one entry
+mod soundness; // soundness.rt: whether a timetable is sound
+mod serving; // serving.rt: whom it lists, and whom a slot serves
+
 // What a timetable holds for one id. A period of 0 says that the id is not listed.
 pub struct Entry {
     pub period: u16,
@@ -28,10 +32,19 @@ impl Timetable {
     pub const LONGEST: usize = 64;
 
     // A slot is counted in 256ths, and every period divides this many slots.
-    pub const WHOLE: u64 = 256;
+    pub const WHOLE: u16 = 256;
 
     // No answer record is longer, and no answer area may be shorter.
     pub const AREA: usize = 231;
+
+    // A bound R is at most this.
+    pub const LARGEST_BOUND: u8 = 8;
+
+    // The highest slot in a request or query: 2^48 - 1.
+    pub const LAST_SLOT: u64 = 281474976710655;
+
+    // The owner query's answer for an idle slot.
+    pub const IDLE: u8 = 255;
 
     // The empty timetable: request slot 0, length 0 and nothing listed.
     pub fn empty() -> Timetable

@@ -1,0 +1,129 @@
+-- What the table of taken slots says once the slots of an offset are marked, one after the other, and what the search of it for a free slot finds.
+-- Assumes nothing.
+use borrow.Author.Tests.{eq-eqb, ne-eqb}
+use lib.Dec.{eqb}
+use lib.ListN.{getD, length, length-set, set}
+use lib.Seq.{getD-set-same, getD-set-other}
+use mathlib.Core.Bool.{Bool, true, false, _||_}
+use mathlib.Core.List.{List}
+use mathlib.Core.Logic.{_≢_}
+use mathlib.Core.Path.{_≡_, refl, sym, ap, _∙_, subst}
+use native.Mathlib.Decide.{ℕ-discrete, decLe, decLt}
+use native.Mathlib.Nat.{add-mod-right, div-add-mod', mod-eq-of-lt, mul-le-mul-right}
+use native.Mathlib.Numerals.{add-one}
+use native.Mathlib.Omega.{arith}
+use Prim.Native.Nat.{ℕ, zero, suc, _+_, _*_, _/_, _%_, _≤_, _<_}
+use Rattle.placement.specs.declared.taken.Free.{Free}
+use Rattle.placement.specs.declared.taken.Free.the-variants.{At, Nowhere}
+use Rattle.placement.specs.Placed.{Says, lastClear, Finds, Marks}
+use Rattle.placement.specs.Placement.{Place, isTaken}
+use Rattle.slots.specs.Limits.{WHOLE}
+
+-- ---- the answers
+
+-- One answer names one offset,
+pub same-offset : (a b : ℕ) → At a ≡ At b → a ≡ b
+same-offset a b e = cc
+
+-- and not both an offset and none.
+pub at-nowhere : (f : Free) (o : ℕ) → f ≡ Nowhere → f ≡ At o → ⊥
+at-nowhere f o p q = let z : _≡_ {A = ℕ} 0 1 = cc in omega arith
+
+-- ---- the search
+
+-- The search down from the last offset has come to the slots below i.
+abbrev pub Passed : List Bool → ℕ → ℕ → Type 0
+Passed table last i = (ps : List Place) → Says table ps → lastClear ps (last + 1) ≡ lastClear ps i
+
+module _ (table : List Bool) (last i : ℕ) (passed : Passed table last i) where
+  -- A free slot there ends it,
+  pub passed-free : (n : ℕ) → i ≡ n + 1 → n < WHOLE → getD table n false ≡ false → Finds table last (At n)
+  unfolding lastClear
+  passed-free n e inside h ps s =
+      let k : isTaken ps n ≡ false = sym (s .slot n inside) ∙ h in
+      sym (passed ps s ∙ rw (e, add-one, lastClear, k) refl)
+
+  -- a taken one is passed over,
+  pub passed-on : (n j : ℕ) → i ≡ n + 1 → j ≡ n → n < WHOLE → getD table n false ≡ true → Passed table last j
+  unfolding lastClear
+  passed-on n j e f inside h ps s =
+      let k : isTaken ps n ≡ true = sym (s .slot n inside) ∙ h in
+      passed ps s ∙ rw (e, f, add-one, lastClear, k) refl
+
+  -- and past the first slot there is none.
+  pub passed-all : i ≡ 0 → Finds table last Nowhere
+  unfolding lastClear
+  passed-all e ps s = sym (passed ps s ∙ rw e refl)
+
+-- What is found lies below the end.
+abbrev Within : ℕ → Free → Type 0
+Within n (At o) = o < n
+Within n Nowhere = Unit {0}
+
+within : (ps : List Place) (n : ℕ) → Within n (lastClear ps n)
+unfolding lastClear
+within ps zero = tt
+within ps (suc n) = at (isTaken ps n) (lastClear ps n) (within ps n)
+  where
+    at : (b : Bool) (f : Free) → Within n f → Within (suc n) (elim b [ true ↦ f | false ↦ At n ])
+    at true (At o) h = omega arith
+    at true Nowhere h = tt
+    at false f h = omega arith
+
+pub clear-below : (ps : List Place) (n o : ℕ) → lastClear ps n ≡ At o → o < n
+clear-below ps n o e = subst (Within n) e (within ps n)
+
+-- ---- the marks
+
+-- The slots of an offset are taken as far as the slot, which is the next of them; no other entry of the table has changed.
+pub record Marked (before : List Bool) (period offset : ℕ) (after : List Bool) (slot : ℕ) : Type 0 where
+  pub size : length after ≡ length before
+  pub class : slot % period ≡ offset
+  pub hit : (n : ℕ) → n < length before → n < slot → n % period ≡ offset → getD after n false ≡ true
+  pub other : (n : ℕ) → (n < slot → n % period ≢ offset) → getD after n false ≡ getD before n false
+
+module _ (before : List Bool) (period offset : ℕ) (inside : offset < period) where
+  -- Two slots of one class are a period apart.
+  apart : (a n : ℕ) → a % period ≡ offset → n % period ≡ offset → a < n → n < a + period → ⊥
+  apart a n e f l h = at (decLe (n / period) (a / period))
+    where
+      at : Dec (n / period ≤ a / period) → ⊥
+      at (yes k) = omega (arith, div-add-mod' a period, div-add-mod' n period, mul-le-mul-right period k)
+      at (no k) =
+          let m : suc (a / period) ≤ n / period = omega arith in
+          let q : suc (a / period) * period ≡ a / period * period + period = omega arith in
+          omega (arith, div-add-mod' a period, div-add-mod' n period, mul-le-mul-right period m)
+
+  -- Before the first mark
+  pub marked-none : Marked before period offset before offset
+  marked-none = record {
+    size = refl;
+    class = mod-eq-of-lt inside;
+    hit = λ n k h e. let m : n < period = omega arith in absurd (omega (arith, mod-eq-of-lt m));
+    other = λ n h. refl;
+  }
+
+  -- each mark takes one slot more,
+  pub marked-more : (after : List Bool) (slot : ℕ) → Marked before period offset after slot → Marked before period offset (set after slot true) (slot + period)
+  marked-more after slot m = record {
+    size = length-set after slot true ∙ m .size;
+    class = add-mod-right slot period ∙ m .class;
+    hit = λ n k h e. hit n k h e (ℕ-discrete n slot) (decLt n slot);
+    other = λ n h.
+        let ne : n ≢ slot = λ e. h (omega arith) (ap (λ (x : ℕ). x % period) e ∙ m .class) in
+        getD-set-other after slot n true false ne ∙ m .other n (λ k. h (omega arith));
+  }
+    where
+      hit : (n : ℕ) → n < length before → n < slot + period → n % period ≡ offset → Dec (n ≡ slot) → Dec (n < slot) → getD (set after slot true) n false ≡ true
+      hit n k h e (yes z) d = rw z (getD-set-same after slot true false (omega (arith, m .size)))
+      hit n k h e (no z) (yes d) = getD-set-other after slot n true false z ∙ m .hit n k d e
+      hit n k h e (no z) (no d) = absurd (apart slot n (m .class) e (omega arith) h)
+
+  -- and past the last slot the table says what the places and one more say.
+  pub marked-all : (after : List Bool) (slot : ℕ) → WHOLE ≤ slot → Marked before period offset after slot → Marks before period offset after
+  unfolding isTaken
+  marked-all after slot l m ps s i = record { size = m .size ∙ s .size; slot = λ n k. at n k (ℕ-discrete (n % period) offset) }
+    where
+      at : (n : ℕ) → n < WHOLE → Dec (n % period ≡ offset) → getD after n false ≡ eqb (n % period) offset || isTaken ps n
+      at n k (yes e) = m .hit n (omega (arith, s .size)) (omega arith) e ∙ ap (λ (b : Bool). b || isTaken ps n) (sym (eq-eqb _ _ e))
+      at n k (no e) = m .other n (λ h. e) ∙ s .slot n k ∙ ap (λ (b : Bool). b || isTaken ps n) (sym (ne-eqb _ _ e))

@@ -1,0 +1,113 @@
+-- `shortfall_after` follows the closed form: nothing is paid before the first own slot; after it, what it leaves and the slots since the last own one are owed.
+-- Every sum is below 256 x 10, and so fits. Assumes nothing.
+use borrow.Author.Needs.{needs}
+use mathlib.Core.Path.{_∙_}
+use native.Mathlib.Nat.{mod-lt}
+use native.Mathlib.Omega.{arith}
+use Prim.Native.Nat.{_+_, _-_, _*_, _%_, _≤_, _<_}
+use Rattle.slots.specs.Limits.{WHOLE, LARGEST-BOUND}
+use Rattle.timetable.proofs.EntryLaws.{before-small, before-is, owed-small, since-small, after-is}
+use Rattle.timetable.proofs.Ranges.{in-range-from}
+use Rattle.timetable.proofs.Entry.shortfall_after.Statement.{statement}
+use Rattle.timetable.proofs.Entry.shortfall_after.Tie as tie
+
+-- What is owed up to the first own slot, in it, and since the last one, once the weight is known.
+early : (c : tie.After-weight) → c .before .args .n ≤ c .before .args .self .offset
+    → c .before .args .self .shortfall + c .before .args .n * c .weight .result < WHOLE * LARGEST-BOUND
+early c = before-small (c .before .args .self) (c .before .pre) (c .weight .result) (c .weight .ensures) (c .before .args .n)
+
+owed : (c : tie.After-weight)
+    → c .before .args .self .shortfall + c .before .args .self .offset * c .weight .result + c .weight .result < WHOLE * (LARGEST-BOUND + 1)
+owed c = owed-small (c .before .args .self) (c .before .pre) (c .weight .result) (c .weight .ensures)
+
+since : (c : tie.After-weight)
+    → (c .before .args .n - c .before .args .self .offset - 1) % c .before .args .self .period * c .weight .result < WHOLE
+since c =
+    let a = c .before .args in
+    since-small (a .self) (c .before .pre) (c .weight .result) (c .weight .ensures) (a .n - a .self .offset - 1)
+
+weight-requires : tie.Need-weight-requires
+weight-requires c κs = search needs
+
+cast-offset : tie.Need-cast-offset
+cast-offset c = search needs
+
+cast-result : tie.Need-cast-result
+cast-result c = search needs
+
+mul-result : tie.Need-mul-result
+mul-result c = omega (arith, early (c .before .before) (c .if1 .taken))
+
+add-result : tie.Need-add-result
+add-result c = omega (arith, early (c .before .before .before) (c .before .if1 .taken))
+
+returns : tie.Need-returns
+returns c =
+    let k = c .before .before .before in
+    let s = k .before in
+    before-is (s .args .self) (s .pre) (k .weight .result) (k .weight .ensures) (s .args .n) (c .before .if1 .taken)
+
+sub-since : tie.Need-sub-since
+sub-since c = search needs
+
+sub-since-2 : tie.Need-sub-since-2
+sub-since-2 c = search needs
+
+cast-since : tie.Need-cast-since
+cast-since c = search needs
+
+rem-since : tie.Need-rem-since
+rem-since c = omega (arith, in-range-from (c .before .before .before .before .args .self) (c .before .before .before .before .pre) .inside)
+
+cast-since-2 : tie.Need-cast-since-2
+cast-since-2 c =
+    let a = c .before .before .before .before .args in
+    omega (arith, mod-lt (a .n - a .self .offset - 1) {m = a .self .period} (rem-since c))
+
+cast-owed : tie.Need-cast-owed
+cast-owed c = search needs
+
+mul-owed : tie.Need-mul-owed
+mul-owed c = omega (arith, owed (c .before .before .before .before))
+
+add-owed : tie.Need-add-owed
+add-owed c = omega (arith, owed (c .before .before .before .before .before))
+
+add-owed-2 : tie.Need-add-owed-2
+add-owed-2 c = omega (arith, owed (c .before .before .before .before .before))
+
+mul-after-own : tie.Need-mul-after-own
+mul-after-own c = omega (arith, since (c .before .before .before .before .before))
+
+after-own-requires : tie.Need-after-own-requires
+after-own-requires c κs = let w = c .before .before .before .before .before in omega (arith, owed w, since w)
+
+returns-2 : tie.Need-returns-2
+returns-2 c =
+    let k = c .before .before .before .before .before .before in
+    let s = k .before in
+    c .after-own .ensures
+    ∙ after-is (s .args .self) (s .pre) (k .weight .result) (k .weight .ensures) (s .args .n) (c .before .before .before .before .if1 .left)
+
+pub shortfall-after-spec : {M : Type 1} → statement M
+shortfall-after-spec =
+    tie.close
+    (tie.spec
+    weight-requires
+    cast-offset
+    cast-result
+    mul-result
+    add-result
+    returns
+    sub-since
+    sub-since-2
+    cast-since
+    rem-since
+    cast-since-2
+    cast-owed
+    mul-owed
+    add-owed
+    add-owed-2
+    mul-after-own
+    after-own-requires
+    returns-2)

@@ -1,0 +1,58 @@
+-- The questions about the numbers below a number, asked one number at a time. Assumes nothing.
+use borrow.Author.Tests.{not-true, not-false}
+use lib.ListN.{length, length-map}
+use mathlib.Core.Bool.{Bool, true, false, not}
+use mathlib.Core.List.{List, map}
+use mathlib.Core.Logic.{_⊎_, inl, inr}
+use mathlib.Core.Option.{none, some}
+use mathlib.Core.Path.{_≡_, sym, ap, _∙_}
+use native.Mathlib.Numerals.{add-one}
+use native.Mathlib.Omega.{arith}
+use Prim.Native.Nat.{ℕ, suc, _+_, _≤_, _<_}
+use Rattle.slots.proofs.Below.{every-at, true-false, decided, first-none, some-first}
+use Rattle.slots.specs.Below.{every, first}
+
+-- An array of structs is known by the list of what its elements are made of, which is as long.
+pub unmapped : (X Y : Type 0) (f : X → Y) (l : List X) (n : ℕ) → length (map f l) ≡ n → length l ≡ n
+unmapped X Y f l n h = sym (length-map l f) ∙ h
+
+-- A result that stands for a test, and is refused or passes.
+pub refused : (r s : Bool) → r ≡ s → not r ≡ true → s ≡ false
+refused r s e h = sym e ∙ not-true r h
+
+pub passed : (r s : Bool) → r ≡ s → not r ≡ false → s ≡ true
+passed r s e h = sym e ∙ not-false r h
+
+module _ (test : ℕ → Bool) where
+  -- A scan of all numbers below n that has come to m with the answer r: it stops where the test fails,
+  pub scan-stops : (n m : ℕ) (r : Bool) → m < n → r ≡ test m → not r ≡ true → false ≡ every n test
+  scan-stops n m r l e h = at (decided (every n test))
+    where
+      at : (every n test ≡ true) ⊎ (every n test ≡ false) → false ≡ every n test
+      at (inl k) = absurd (true-false (every-at test n k m l) (refused r (test m) e h))
+      at (inr k) = sym k
+
+  -- goes on where it passes,
+  pub scan-goes : (m : ℕ) (r : Bool) → every m test ≡ true → r ≡ test m → not r ≡ false → every (m + 1) test ≡ true
+  unfolding every
+  scan-goes m r k e h = rw add-one (rw (k, passed r (test m) e h))
+
+  -- and passes where all have been asked.
+  pub scan-ends : (n m : ℕ) → n ≤ m → m ≤ n → every m test ≡ true → true ≡ every n test
+  scan-ends n m a b k = let e : n ≡ m = omega arith in sym (ap (λ (x : ℕ). every x test) e ∙ k)
+
+  first-suc : (n : ℕ) → first n test ≡ none → test n ≡ false → first (suc n) test ≡ none
+  unfolding first
+  first-suc n e h = rw (e, h)
+
+  -- One number more fails.
+  pub first-more : (n : ℕ) → first n test ≡ none → test n ≡ false → first (n + 1) test ≡ none
+  first-more n e h = rw add-one (first-suc n e h)
+
+  -- None passes, and all have been asked.
+  pub first-end : (n m : ℕ) → m ≤ n → n ≤ m → first n test ≡ none → first m test ≡ none
+  first-end n m a b e = let k : m ≡ n = omega arith in ap (λ (x : ℕ). first x test) k ∙ e
+
+  -- None below n passes, and n does.
+  pub first-here : (n m : ℕ) → n < m → first n test ≡ none → test n ≡ true → first m test ≡ some n
+  first-here n m l e h = some-first test m n l h (first-none test n e)

@@ -1,0 +1,264 @@
+-- The clauses of soundness, as they are tested. Assumes nothing.
+use borrow.Author.Tests.{lt-ltb, le-ltb, le-leb, lt-leb, eq-eqb, ne-eqb, leb-true}
+use lib.Dec.{eqb, leb, ltb}
+use lib.ListN.{getD, length}
+use mathlib.Core.Bool.{Bool, true, false, cond, not, _&&_, _||_}
+use mathlib.Core.List.{List, [], _∷_}
+use mathlib.Core.Logic.{_↔_, _⊎_, inl, inr}
+use mathlib.Core.Path.{_≡_, refl, sym, ap, _∙_}
+use native.Mathlib.Decide.{ℕ-discrete}
+use native.Mathlib.Omega.{arith}
+use Prim.Native.Nat.{ℕ, zero, suc, _+_, _*_, _%_, _≤_, _<_}
+use Rattle.slots.proofs.Below.{and-both, every-at, every-all, decided}
+use Rattle.slots.specs.Below.{every}
+use Rattle.slots.specs.Limits.{IDS, LONGEST, WHOLE, LARGEST-BOUND, LAST-SLOT}
+use Rattle.slots.specs.Shortfall.{keeps}
+use Rattle.timetable.proofs.EntryLaws.{unlisted, listed}
+use Rattle.timetable.proofs.Meet.{entries-meet}
+use Rattle.timetable.proofs.Ranges.{InRange, in-range-from, period-dvd, period-divides}
+use Rattle.timetable.proofs.Sound.{share-from, share-is}
+use Rattle.timetable.specs.declared.Entry.{Entry}
+use Rattle.timetable.specs.declared.Timetable.{Timetable}
+use Rattle.timetable.specs.Sound.{requestInRange, lengthInRange, baseAsStated, ownersListed, isPeriod, isBound, entryInRange, entryBlank, entriesInRange, shareNone, noneShared, unusedOwnersZero, isSound}
+use Rattle.timetable.specs.Timetable.{noEntry, entryOf, isListed, weight, cyclic}
+
+-- ---- one entry
+
+-- The periods above 2.
+abbrev pub Above : ℕ → Type 0
+Above p = (p ≡ 4) ⊎ ((p ≡ 8) ⊎ ((p ≡ 16) ⊎ ((p ≡ 32) ⊎ ((p ≡ 64) ⊎ ((p ≡ 128) ⊎ (p ≡ 256))))))
+
+pub period-above : (p : ℕ) → Above p → isPeriod p ≡ true
+unfolding isPeriod every
+period-above p (inl h) = rw h
+period-above p (inr (inl h)) = rw h
+period-above p (inr (inr (inl h))) = rw h
+period-above p (inr (inr (inr (inl h)))) = rw h
+period-above p (inr (inr (inr (inr (inl h))))) = rw h
+period-above p (inr (inr (inr (inr (inr (inl h)))))) = rw h
+period-above p (inr (inr (inr (inr (inr (inr h)))))) = rw h
+
+pub period-low : (p : ℕ) → 1 ≤ p → p < 3 → isPeriod p ≡ true
+unfolding isPeriod every
+period-low p a b = at (ℕ-discrete p 1)
+  where
+    at : Dec (p ≡ 1) → isPeriod p ≡ true
+    at (yes h) = rw h
+    at (no n) = let h : p ≡ 2 = omega arith in rw h
+
+pub period-not : (p : ℕ) → (p ≡ 1 → ⊥) → (p ≡ 2 → ⊥) → (Above p → ⊥) → isPeriod p ≡ false
+unfolding isPeriod every
+period-not p a b n =
+    simp (
+      ne-eqb p 1 a,
+      ne-eqb p 2 b,
+      ne-eqb p 4 (λ h. n (inl h)),
+      ne-eqb p 8 (λ h. n (inr (inl h))),
+      ne-eqb p 16 (λ h. n (inr (inr (inl h)))),
+      ne-eqb p 32 (λ h. n (inr (inr (inr (inl h))))),
+      ne-eqb p 64 (λ h. n (inr (inr (inr (inr (inl h)))))),
+      ne-eqb p 128 (λ h. n (inr (inr (inr (inr (inr (inl h))))))),
+      ne-eqb p 256 (λ h. n (inr (inr (inr (inr (inr (inr h))))))),
+    )
+
+-- The bound.
+pub bound-none : (r : ℕ) → r ≡ 0 → isBound r ≡ false
+unfolding isBound
+bound-none r h = rw (unlisted r h)
+
+pub bound-test : (r : ℕ) → (r ≡ 0 → ⊥) → isBound r ≡ leb r LARGEST-BOUND
+unfolding isBound
+bound-test r h = rw (listed r h)
+
+module _ (e : Entry) where
+  -- In range, test by test.
+  pub range-period : isPeriod (e .period) ≡ false → entryInRange e ≡ false
+  unfolding entryInRange
+  range-period a = rw a
+
+  module _ (a : isPeriod (e .period) ≡ true) where
+    pub range-bound : isBound (e .bound) ≡ false → entryInRange e ≡ false
+    unfolding entryInRange
+    range-bound b = rw (a, b)
+
+    module _ (b : isBound (e .bound) ≡ true) where
+      pub range-offset : e .period ≤ e .offset → entryInRange e ≡ false
+      unfolding entryInRange
+      range-offset h = rw (a, b, le-ltb (e .offset) (e .period) h)
+
+      pub range-kept : e .offset < e .period → entryInRange e ≡ keeps (e .bound) (e .shortfall + e .offset * weight e)
+      unfolding entryInRange
+      range-kept h = rw (a, b, lt-ltb (e .offset) (e .period) h)
+
+  -- All zero, test by test.
+  pub blank-offset : (e .offset ≡ 0 → ⊥) → entryBlank e ≡ false
+  unfolding entryBlank
+  blank-offset a = rw (ne-eqb (e .offset) 0 a)
+
+  pub blank-bound : e .offset ≡ 0 → (e .bound ≡ 0 → ⊥) → entryBlank e ≡ false
+  unfolding entryBlank
+  blank-bound a b = rw (eq-eqb (e .offset) 0 a, ne-eqb (e .bound) 0 b)
+
+  pub blank-shortfall : e .offset ≡ 0 → e .bound ≡ 0 → entryBlank e ≡ eqb (e .shortfall) 0
+  unfolding entryBlank
+  blank-shortfall a b = rw (eq-eqb (e .offset) 0 a, eq-eqb (e .bound) 0 b)
+
+  -- In range or all zero, as it is listed.
+  abbrev pub formed : Bool
+  formed = cond (isListed e) (entryInRange e) (entryBlank e)
+
+  pub formed-listed : isListed e ≡ true → formed ≡ entryInRange e
+  formed-listed h = rw h
+
+  pub formed-blank : isListed e ≡ false → formed ≡ entryBlank e
+  formed-blank h = rw h
+
+-- ---- the request slot, the length and the base
+
+module _ (t : Timetable) where
+  abbrev pub placed : Bool
+  placed = requestInRange t && lengthInRange t && baseAsStated t
+
+  pub placed-late : LAST-SLOT < t .request .0 → placed ≡ false
+  unfolding requestInRange
+  placed-late h = rw (lt-leb (t .request .0) LAST-SLOT h)
+
+  pub placed-long : t .request .0 ≤ LAST-SLOT → LONGEST < t .length → placed ≡ false
+  unfolding requestInRange lengthInRange
+  placed-long a h = rw (le-leb (t .request .0) LAST-SLOT a, lt-leb (t .length) LONGEST h)
+
+  pub placed-base : t .request .0 ≤ LAST-SLOT → t .length ≤ LONGEST → placed ≡ eqb (t .base .0) (t .request .0 + t .length)
+  unfolding requestInRange lengthInRange baseAsStated
+  placed-base a b = rw (le-leb (t .request .0) LAST-SLOT a, le-leb (t .length) LONGEST b)
+
+-- ---- shared slots
+
+both : (a b : Bool) → a && b ≡ b && a
+both true true = refl
+both true false = refl
+both false true = refl
+both false false = refl
+
+-- It is the same to ask of f and e.
+pub share-swap : (e f : Entry) → shareNone e f ≡ shareNone f e
+unfolding shareNone
+share-swap e f = λ i. every WHOLE (λ n. not (both (cyclic e n) (cyclic f n) i))
+
+-- Two entries in range share no slot exactly if the offset of the larger period does not lie in the smaller's class.
+pub share-test : (e f : Entry) → InRange e → InRange f → e .period ≤ f .period
+    → shareNone e f ≡ not (eqb (f .offset % e .period) (e .offset))
+share-test e f r s l = at (ℕ-discrete (f .offset % e .period) (e .offset)) (decided (shareNone e f))
+  where
+    meet : ((n : ℕ) × (cyclic e n ≡ true) × (cyclic f n ≡ true)) ↔ (f .offset % e .period ≡ e .offset)
+    meet = entries-meet e f (r .inside) (s .inside) (period-dvd (e .period) (f .period) (r .period) (s .period) l)
+
+    at : Dec (f .offset % e .period ≡ e .offset) → (shareNone e f ≡ true) ⊎ (shareNone e f ≡ false)
+        → shareNone e f ≡ not (eqb (f .offset % e .period) (e .offset))
+    at (yes q) (inl t) =
+        let w = meet .1 q in
+        absurd (share-from e f (period-divides _ (r .period)) (period-divides _ (s .period)) t (w .0) (w .1) (w .2))
+    at (yes q) (inr t) = t ∙ ap not (sym (eq-eqb _ _ q))
+    at (no q) d = share-is e f (λ n a b. q (meet .0 (n, a, b))) ∙ ap not (sym (ne-eqb _ _ q))
+
+-- Two entries that are not both listed, or share no slot: by the tests on their periods.
+module _ (e f : Entry) where
+  abbrev pub apart : Bool
+  apart = not (isListed e && isListed f) || shareNone e f
+
+  pub apart-first : e .period ≡ 0 → apart ≡ true
+  apart-first h = rw h
+
+  pub apart-second : (e .period ≡ 0 → ⊥) → f .period ≡ 0 → apart ≡ true
+  apart-second n h = rw (listed (e .period) n, h)
+
+  module _
+      (he : isListed e ≡ true → entryInRange e ≡ true)
+      (hf : isListed f ≡ true → entryInRange f ≡ true)
+      (ne : e .period ≡ 0 → ⊥)
+      (nf : f .period ≡ 0 → ⊥) where
+    re : InRange e
+    re = in-range-from e (he (listed (e .period) ne))
+
+    rf : InRange f
+    rf = in-range-from f (hf (listed (f .period) nf))
+
+    pub apart-below : e .period ≤ f .period → apart ≡ not (eqb (f .offset % e .period) (e .offset))
+    apart-below l = rw (listed (e .period) ne, listed (f .period) nf) (share-test e f re rf l)
+
+    pub apart-above : f .period < e .period → apart ≡ not (eqb (e .offset % f .period) (f .offset))
+    apart-above l = rw (listed (e .period) ne, listed (f .period) nf) (share-swap e f ∙ share-test f e rf re (omega arith))
+
+-- ---- the loops' tests
+
+-- Past the end of the entries nothing is listed.
+pub past-end : (es : List Entry) (i : ℕ) → length es ≤ i → entryOf es i ≡ noEntry
+past-end [] i h = refl
+past-end (e ∷ es) zero h = absurd (omega arith)
+past-end (e ∷ es) (suc i) h = past-end es i (omega arith)
+
+-- What owners_listed asks of transition slot n.
+abbrev pub ownerTest : Timetable → ℕ → Bool
+ownerTest t n = isListed (entryOf (t .entries) (getD (t .owners) n 0))
+
+pub owner-foreign : (t : Timetable) (n : ℕ) → length (t .entries) ≡ IDS → IDS ≤ getD (t .owners) n 0 → ownerTest t n ≡ false
+owner-foreign t n l h = ap isListed (past-end (t .entries) (getD (t .owners) n 0) (omega arith))
+
+-- What entries_in_range asks of id i.
+abbrev pub entryTest : List Entry → ℕ → Bool
+entryTest es i = formed (entryOf es i)
+
+pub entry-range : (es : List Entry) (i : ℕ) → entriesInRange es ≡ true → i < IDS
+    → isListed (entryOf es i) ≡ true → entryInRange (entryOf es i) ≡ true
+unfolding entriesInRange
+entry-range es i h k l = sym (formed-listed (entryOf es i) l) ∙ every-at (entryTest es) IDS h i k
+
+-- What none_shared asks of the ids i and j.
+abbrev pub pairTest : List Entry → ℕ → ℕ → Bool
+pairTest es i j = apart (entryOf es i) (entryOf es j)
+
+abbrev pub idTest : List Entry → ℕ → Bool
+idTest es i = every i (pairTest es i)
+
+-- What unused_owners_zero asks of place n.
+module _ (t : Timetable) where
+  abbrev pub unusedTest : ℕ → Bool
+  unusedTest n = ltb n (t .length) || eqb (getD (t .owners) n 0) 0
+
+  pub unused-start : every (t .length) unusedTest ≡ true
+  unused-start = every-all unusedTest (t .length) (λ n h. ap (λ (b : Bool). b || eqb (getD (t .owners) n 0) 0) (lt-ltb n (t .length) h))
+
+  pub unused-test : (n : ℕ) → t .length ≤ n → unusedTest n ≡ eqb (getD (t .owners) n 0) 0
+  unused-test n h = ap (λ (b : Bool). b || eqb (getD (t .owners) n 0) 0) (le-ltb n (t .length) h)
+
+pub length-known : (t : Timetable) → lengthInRange t ≡ true → t .length ≤ LONGEST
+unfolding lengthInRange
+length-known t h = leb-true (t .length) LONGEST h
+
+-- ---- the whole timetable, clause by clause
+
+module _ (t : Timetable) where
+  pub sound-placed : placed t ≡ false → isSound t ≡ false
+  unfolding isSound
+  sound-placed a = rw a
+
+  module _ (a : placed t ≡ true) where
+    pub placed-length : lengthInRange t ≡ true
+    placed-length = and-both (requestInRange t) (lengthInRange t) (and-both (requestInRange t && lengthInRange t) (baseAsStated t) a .0) .1
+
+    pub sound-owners : ownersListed t ≡ false → isSound t ≡ false
+    unfolding isSound
+    sound-owners b = rw (a, b)
+
+    module _ (b : ownersListed t ≡ true) where
+      pub sound-entries : entriesInRange (t .entries) ≡ false → isSound t ≡ false
+      unfolding isSound
+      sound-entries d = rw (a, b, d)
+
+      module _ (d : entriesInRange (t .entries) ≡ true) where
+        pub sound-shared : noneShared (t .entries) ≡ false → isSound t ≡ false
+        unfolding isSound
+        sound-shared f = rw (a, b, d, f)
+
+        pub sound-unused : noneShared (t .entries) ≡ true → isSound t ≡ unusedOwnersZero t
+        unfolding isSound
+        sound-unused f = rw (a, b, d, f)

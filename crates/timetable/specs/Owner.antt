@@ -1,0 +1,8 @@
+-- The number with which the owner query answers.
+use mathlib.Core.Option.{Option, none, some}
+use Prim.Native.Nat.{ℕ}
+
+-- The owner, or 255 for idle.
+unfoldable pub ownerNumber : Option ℕ → ℕ
+ownerNumber none = 255
+ownerNumber (some i) = i
