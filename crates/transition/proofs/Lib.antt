@@ -3,3 +3,5 @@ pub mod Plans
 pub mod Search
 pub mod Reach
 pub mod Walk
+pub mod StepLaws
+pub mod SearchLaws

@@ -1,2 +1,3 @@
 pub mod Transition
 pub mod Reach
+pub mod Coded

@@ -1,10 +1,14 @@
-// The transition: rules 2 and 3 of document 01.
+// The transition: rules 2 and 3 of document 01. Lengths are searched one after the other; each further slot goes to the most urgent. Nothing here is refused.
 use timetable::Entry;
+use timetable::Timetable;
+
+pub mod lengths; // lengths.rt: the search of lengths
+mod step; // step.rt: one more transition slot
 
 // What a length has reached: the owners of the transition slots so far, and each id's entry with its shortfall there.
 pub struct Plan {
-    pub owners: [u8; 64],
-    pub entries: [Entry; 32],
+    pub owners: [u8; Timetable::LONGEST],
+    pub entries: [Entry; Timetable::IDS],
 }
 
 // How the search of lengths ended.
@@ -21,5 +25,17 @@ pub enum Ending {
 pub struct Searched {
     pub ending: Ending,
     pub tries: u8,
+    pub plan: Plan,
+}
+
+// The most urgent listed id with its room, or that nobody is listed.
+pub enum Urgent {
+    Id(usize, u16),
+    Nobody,
+}
+
+// Whether one more transition slot was given, and the plan with it.
+pub struct Next {
+    pub given: bool,
     pub plan: Plan,
 }

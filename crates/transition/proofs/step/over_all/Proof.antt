@@ -1,0 +1,73 @@
+-- `over_all` meets its contract: the loop's invariant is that the entries below `id` are over the slot and the others as they were. Assumes nothing.
+use borrow.Author.Needs.{needs}
+use mathlib.Core.Path.{_≡_, refl}
+use native.Mathlib.Omega.{arith}
+use Prim.Native.Nat.{_-_, _≤_}
+use Rattle.slots.specs.Limits.{IDS}
+use Rattle.timetable.specs.Timetable.{each}
+use Rattle.transition.proofs.StepLaws.{owes-less, overBelow, over-more, over-end}
+use Rattle.transition.proofs.step.over_all.Statement.{statement}
+use Rattle.transition.proofs.step.over_all.Tie as tie
+
+abbrev Inv-loop : tie.InvT-loop
+Inv-loop u entries over₀ id₀ over id = (id ≤ IDS) × (over ≡ overBelow entries u id)
+
+abbrev μ-loop : tie.MeasureT-loop
+μ-loop u entries over₀ id₀ over id = IDS - id
+
+loop-holds : tie.Need-loop-holds Inv-loop μ-loop
+unfolding each
+loop-holds c = (omega arith, refl)
+
+mul-e : tie.Need-mul-e Inv-loop μ-loop
+mul-e c = search needs
+
+array-copy-out-e : tie.Need-array-copy-out-e Inv-loop μ-loop
+array-copy-out-e c = search needs
+
+over-slot-requires : tie.Need-over-slot-requires Inv-loop μ-loop
+over-slot-requires c κs =
+    let i = c .before in
+    let s = i .before .before in
+    owes-less (s .args .t1) (s .pre) (i .before .loop .id) (i .loop-test .taken)
+
+mul-over : tie.Need-mul-over Inv-loop μ-loop
+mul-over c = search needs
+
+array-set-from-over : tie.Need-array-set-from-over Inv-loop μ-loop
+array-set-from-over c = search needs
+
+add-id : tie.Need-add-id Inv-loop μ-loop
+add-id c = omega arith
+
+loop-less : tie.Need-loop-less Inv-loop μ-loop
+loop-less c = omega arith
+
+loop-again : tie.Need-loop-again Inv-loop μ-loop
+loop-again c =
+    let l = c .before .before .before .loop in
+    let a = c .before .before .before .before .args in
+    (omega arith, over-more (a .t1) (a .u) (l .id) (l .over) (c .over-slot .result) (l .inv .1) (c .over-slot .ensures))
+
+returns : tie.Need-returns Inv-loop μ-loop
+returns c =
+    let l = c .before .loop in
+    let a = c .before .before .args in
+    over-end (a .t1) (a .u) (l .id) (l .over) (l .inv .1) (omega arith)
+
+pub over-all-spec : {M : Type 1} → statement M
+over-all-spec =
+    tie.close
+    (tie.spec
+    Inv-loop
+    μ-loop
+    loop-holds
+    mul-e
+    array-copy-out-e
+    over-slot-requires
+    mul-over
+    array-set-from-over
+    add-id
+    loop-less
+    loop-again
+    returns)

@@ -1,0 +1,48 @@
+-- The code's answers of the transition, in the definitions' words.
+use lib.Dec.{ltb}
+use mathlib.Core.Bool.{Bool, true, false, cond, not, _||_}
+use mathlib.Core.List.{List}
+use mathlib.Core.Option.{Option, none, some}
+use mathlib.Core.Path.{_≡_}
+use Prim.Native.Nat.{ℕ, _+_, _<_}
+use Rattle.slots.specs.Limits.{IDS}
+use Rattle.timetable.specs.declared.Entry.{Entry}
+use Rattle.timetable.specs.Sound.{entriesInRange}
+use Rattle.timetable.specs.Timetable.{entryOf, isListed, room}
+use Rattle.transition.specs.declared.Next.{Next}
+use Rattle.transition.specs.declared.Plan.{Plan}
+use Rattle.transition.specs.declared.Searched.{Searched}
+use Rattle.transition.specs.declared.Urgent.{Urgent}
+use Rattle.transition.specs.declared.Urgent.the-variants.{Id, Nobody}
+
+-- The most urgent id with its room, or nobody.
+unfoldable pub urgentOf : List Entry → Option ℕ → Urgent
+urgentOf es none = Nobody
+urgentOf es (some u) = Id u (room (entryOf es u))
+
+-- An id with its room beside the most urgent so far: it is more urgent if it has less room.
+unfoldable pub lessRoom : ℕ → ℕ → Urgent → Urgent
+lessRoom n r Nobody = Id n r
+lessRoom n r (Id u s) = cond (ltb r s) (Id n r) (Id u s)
+
+-- The entry of id n beside the most urgent so far.
+unfoldable pub beside : Entry → ℕ → Urgent → Urgent
+beside e n best = cond (isListed e) (lessRoom n (room e) best) best
+
+-- An entry gets the slot, is not listed, or has room for it to go elsewhere.
+unfoldable pub bearsOne : Entry → Bool → Bool
+bearsOne e own = own || not (isListed e) || ltb 0 (room e)
+
+-- The plan one slot longer, or the same plan where the slot cannot be given.
+unfoldable pub nextOf : Plan → Option Plan → Next
+nextOf plan none = record { given = false; plan = plan }
+nextOf plan (some next) = record { given = true; plan = next }
+
+-- A search after as many lengths that were passed over.
+unfoldable pub after : ℕ → Searched → Searched
+after k s = record { ending = s .ending; tries = k + s .tries; plan = s .plan }
+
+-- A plan from which lengths can be searched: its entries are in range, and none is placed yet.
+pub record Ready (plan : Plan) : Type 0 where
+  pub ranged : entriesInRange (plan .entries) ≡ true
+  pub unplaced : (i : ℕ) → i < IDS → entryOf (plan .entries) i .offset ≡ 0

@@ -1,0 +1,139 @@
+// One more transition slot: to the listed id with the least room, ties to the lower id. Nothing here is refused: a slot that is missed is answered as not given.
+ghost use mathlib.Core.Bool.{true};
+ghost use mathlib.Core.Path.{_≡_};
+ghost use Prim.Native.Nat.{_-_, _*_, _<_};
+ghost use Rattle.slots.specs.Limits.{IDS, LONGEST, WHOLE, LARGEST-BOUND};
+ghost use Rattle.slots.specs.Shortfall.{overSlot};
+ghost use Rattle.timetable.specs.Sound.{entriesInRange};
+ghost use Rattle.timetable.specs.Timetable.{weight, withShortfall};
+ghost use Rattle.transition.specs.Coded.{urgentOf, beside, bearsOne, nextOf};
+ghost use Rattle.transition.specs.Transition.{mostUrgent, isMissed, overAll, longer};
+use crate::Next;
+use crate::Plan;
+use crate::Urgent;
+use timetable::Entry;
+use timetable::Timetable;
+
+// The plan with transition slot n given to the most urgent, or unchanged where it is missed.
+pub fn longer(plan: Plan, n: u8) -> Next
+    requires { ⌜ (entriesInRange (plan .entries) ≡ true) × (n < LONGEST) ⌝ }
+    ensures { λ r. ⌜ r ≡ nextOf plan (longer n plan) ⌝ }
+{
+    let entries = plan.entries;
+    let Urgent::Id(u, _) = most_urgent(entries) else {
+        return Next { given: false, plan };
+    };
+    if is_missed(entries, u) {
+        return Next { given: false, plan };
+    }
+    let mut owners = plan.owners;
+    owners[n as usize] = u as u8;
+    let over = over_all(entries, u);
+    let next = Plan {
+        owners,
+        entries: over,
+    };
+    Next {
+        given: true,
+        plan: next,
+    }
+}
+
+// The listed id with the least room, ties to the lower id.
+fn most_urgent(entries: [Entry; Timetable::IDS]) -> Urgent
+    ensures { λ r. ⌜ r ≡ urgentOf entries (mostUrgent entries IDS) ⌝ }
+{
+    let mut best = Urgent::Nobody;
+    let mut id: usize = 0;
+    while id < Timetable::IDS {
+        let e = entries[id];
+        best = more_urgent(e, id, best);
+        id += 1;
+    }
+    best
+}
+
+// One more id beside the most urgent so far.
+fn more_urgent(e: Entry, id: usize, best: Urgent) -> Urgent
+    ensures { λ r. ⌜ r ≡ beside e id best ⌝ }
+{
+    if !e.is_listed() {
+        return best;
+    }
+    let room = e.room();
+    let Urgent::Id(_, least) = best else {
+        return Urgent::Id(id, room);
+    };
+    if room < least {
+        Urgent::Id(id, room)
+    } else {
+        best
+    }
+}
+
+// Whether another listed id than u has no room.
+fn is_missed(entries: [Entry; Timetable::IDS], u: usize) -> bool
+    ensures { λ r. ⌜ r ≡ isMissed entries u ⌝ }
+{
+    let mut id: usize = 0;
+    while id < Timetable::IDS {
+        let e = entries[id];
+        if !bears_one(e, id == u) {
+            return true;
+        }
+        id += 1;
+    }
+    false
+}
+
+// Whether an entry gets the slot, is not listed, or has room for it to go elsewhere.
+fn bears_one(e: Entry, own: bool) -> bool
+    ensures { λ r. ⌜ r ≡ bearsOne e own ⌝ }
+{
+    if own {
+        return true;
+    }
+    if !e.is_listed() {
+        return true;
+    }
+    0 < e.room()
+}
+
+// Every entry over one slot that goes to u.
+fn over_all(entries: [Entry; Timetable::IDS], u: usize) -> [Entry; Timetable::IDS]
+    requires { ⌜ entriesInRange entries ≡ true ⌝ }
+    ensures { λ r. ⌜ r ≡ overAll entries u ⌝ }
+{
+    let mut over = entries;
+    let mut id: usize = 0;
+    while id < Timetable::IDS {
+        let e = entries[id];
+        over[id] = over_slot(e, id == u);
+        id += 1;
+    }
+    over
+}
+
+// An entry over one slot, its own or not.
+fn over_slot(e: Entry, own: bool) -> Entry
+    requires { ⌜ e .shortfall < WHOLE * LARGEST-BOUND ⌝ }
+    ensures { λ r. ⌜ r ≡ withShortfall (overSlot own (weight e) (e .shortfall)) e ⌝ }
+{
+    let owed = e.shortfall + e.weight();
+    let mut over = e;
+    over.shortfall = owed;
+    if own {
+        over.shortfall = paid(owed);
+    }
+    over
+}
+
+// What is owed after an own slot: surplus is not kept.
+fn paid(owed: u16) -> u16
+    ensures { λ r. ⌜ r ≡ owed - WHOLE ⌝ }
+{
+    if owed < Timetable::WHOLE {
+        return 0;
+    }
+    owed - Timetable::WHOLE
+}
