@@ -18,7 +18,7 @@ listedCount es zero = 0
 listedCount es (suc n) = listedCount es n + one (isListed (entryOf es n))
 
 -- At most all of them are.
-count-most : (es : List Entry) (n : ℕ) → listedCount es n ≤ n
+pub count-most : (es : List Entry) (n : ℕ) → listedCount es n ≤ n
 unfolding listedCount one
 count-most es zero = omega arith
 count-most es (suc n) = at (isListed (entryOf es n)) (count-most es n)
@@ -28,7 +28,7 @@ count-most es (suc n) = at (isListed (entryOf es n)) (count-most es n)
     at false h = omega arith
 
 -- The offsets take five bytes for each listed id.
-offsets-length : (es : List Entry) (n : ℕ) → length (offsetFields es n) ≡ 5 * listedCount es n
+pub offsets-length : (es : List Entry) (n : ℕ) → length (offsetFields es n) ≡ 5 * listedCount es n
 unfolding offsetFields listedCount field one
 offsets-length es zero = refl
 offsets-length es (suc n) = at (isListed (entryOf es n)) (offsets-length es n)

@@ -6,3 +6,6 @@ pub mod FieldBytes
 pub mod OneForm
 pub mod FieldStands
 pub mod RoundTrip
+pub mod NumberLaws
+pub mod NextStep
+pub mod AreaLaws

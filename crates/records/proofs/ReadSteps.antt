@@ -79,7 +79,7 @@ listed-range s at (ListedForm.short p q) e =
     }
 
 -- A listing is read so. (It has as many fields as bytes are left, or fewer.)
-listing-read : (s : List ℕ) (most at floor : ℕ) (asks : List Ask) → length s ≤ at + most
+pub listing-read : (s : List ℕ) (most at floor : ℕ) (asks : List Ask) → length s ≤ at + most
     → ListingRead s at floor asks (readListing most s at floor asks)
 unfolding readListing
 listing-read s zero at floor asks h = end {at = at} (omega arith)
@@ -156,7 +156,7 @@ request-read s = from-slot (slotField s 0) (slot-read s 0)
     from-slot f (SlotRead.value p q) = from-limit _ (limitField s 11) (SlotRead.value p q) (limit-read s 11)
 
 -- Reading a listing gives what its steps say.
-listing-is : (s : List ℕ) (most : ℕ) {at floor : ℕ} {asks : List Ask} {x : Listing} → ListingRead s at floor asks x → length s ≤ at + most
+pub listing-is : (s : List ℕ) (most : ℕ) {at floor : ℕ} {asks : List Ask} {x : Listing} → ListingRead s at floor asks x → length s ≤ at + most
     → readListing most s at floor asks ≡ x
 unfolding readListing
 listing-is s zero (end h) l = refl

@@ -7,6 +7,8 @@ mod figures; // figures.rt: the figures of one entry
 mod soundness; // soundness.rt: whether a timetable is sound
 mod serving; // serving.rt: whom it lists, and whom a slot serves
 
+pub use soundness::is_bound;
+
 // What a timetable holds for one id. A period of 0 says that the id is not listed.
 pub struct Entry {
     pub period: u16,
@@ -39,6 +41,9 @@ impl Timetable {
 
     // A bound R is at most this.
     pub const LARGEST_BOUND: u8 = 8;
+
+    // A period is 2^k with k at most this.
+    pub const LARGEST_K: u8 = 8;
 
     // The highest slot in a request or query: 2^48 - 1.
     pub const LAST_SLOT: u64 = 281474976710655;

@@ -211,8 +211,8 @@ fn is_period(p: u16) -> bool
     }
 }
 
-// A bound is from 1 to 8.
-fn is_bound(bound: u8) -> bool
+// Whether a bound is from 1 to 8.
+pub fn is_bound(bound: u8) -> bool
     ensures { λ r. ⌜ r ≡ isBound bound ⌝ }
 {
     if bound == 0 {

@@ -1,0 +1,102 @@
+-- What one step of reading leaves to read: a tag 3 field past its tests, a listing past a field, a request past its first two fields. Assumes nothing.
+use lib.ListN.{length, set}
+use mathlib.Core.Bool.{Bool, true}
+use mathlib.Core.List.{List}
+use mathlib.Core.Path.{_≡_, ap, _∙_, subst}
+use native.Mathlib.Omega.{arith}
+use Prim.Native.Nat.{ℕ, suc, _≤_, _<_}
+use Rattle.records.proofs.FieldLaws.{ListedForm, ListedRead, listed-read}
+use Rattle.records.proofs.ReadSteps.{ListingRead, listed-range, listing-is, listing-read}
+use Rattle.records.specs.declared.Ask.{Ask}
+use Rattle.records.specs.declared.Cursor.{Cursor}
+use Rattle.records.specs.declared.LimitField.the-variants.{Value as limit-value, Refused as limit-refused}
+use Rattle.records.specs.declared.ListedField.{ListedField}
+use Rattle.records.specs.declared.ListedField.the-variants.{Value as listed-value, Refused as listed-refused}
+use Rattle.records.specs.declared.Listing.{Listing}
+use Rattle.records.specs.declared.Reading.the-variants.{Whole, Refused}
+use Rattle.records.specs.declared.Refusal.{Refusal}
+use Rattle.records.specs.declared.SlotField.the-variants.{Value as slot-value, Refused as slot-refused}
+use Rattle.records.specs.Request.{limitField, listedAs, listedField, noAsks, readListing, readRequest, refusedRequest, slotField, withListing}
+use Rattle.slots.specs.declared.CoreSlot.{CoreSlot}
+use Rattle.slots.specs.Limits.{IDS}
+
+-- The listing from a place on, with as many fields allowed as the record has bytes.
+unfoldable pub listingAt : List ℕ → ℕ → ℕ → List Ask → Listing
+listingAt s at floor asks = readListing (length s) s at floor asks
+
+-- What a field leaves of the listing: the rest with what it lists, or its refusal.
+unfoldable pub listingAfter : List ℕ → List Ask → ListedField → Listing
+listingAfter s asks (listed-value l next) = listingAt s (next .at) (suc (l .id)) (set asks (l .id) (record { period = l .period; bound = l .bound }))
+listingAfter s asks (listed-refused r) = record { reading = Refused r; asks = asks }
+
+-- A field that is read lists an id in range, and ends ahead, inside the record.
+unfoldable pub Ahead : List ℕ → ℕ → ListedField → Type 0
+Ahead s at (listed-value l next) = (l .id < IDS) × (at < next .at) × (next .at ≤ length s)
+Ahead s at (listed-refused r) = ℕ
+
+module _ (s : List ℕ) (at floor : ℕ) where
+  -- Past its form and its range a field is tested for its id.
+  pub listed-tested : {next bound : ℕ} {range : Bool} → ListedForm s at next bound range → range ≡ true
+      → listedField s at floor ≡ listedAs s at floor bound next
+  unfolding listedField
+  listed-tested (ListedForm.long p) e = rw (p, e)
+  listed-tested (ListedForm.short p q) e = rw (p, q, e)
+
+  -- A field that is read is ahead.
+  pub listed-ahead : (f : ListedField) → listedField s at floor ≡ f → Ahead s at f
+  unfolding Ahead
+  listed-ahead f e = subst (Ahead s at) e (by (listedField s at floor) (listed-read s at floor))
+    where
+      by : (f : ListedField) → ListedRead s at floor f → Ahead s at f
+      by f (ListedRead.wrong p q) = 0
+      by f (ListedRead.high p q) = 0
+      by f (ListedRead.low p q k) = 0
+      by f (ListedRead.value p q k) = let r = listed-range s at p q in (r .id-range, r .ahead, r .inside)
+
+  module _ (asks : List Ask) where
+    -- At the end of the record the listing is whole.
+    pub listing-end : length s ≤ at → listingAt s at floor asks ≡ record { reading = Whole; asks = asks }
+    unfolding listingAt
+    listing-end h = listing-is s (length s) (ListingRead.end {at = at} {floor = floor} h) (omega arith)
+
+    -- Before it a field is read, and the listing is what the field leaves.
+    pub listing-step : at < length s → (f : ListedField) → listedField s at floor ≡ f → listingAt s at floor asks ≡ listingAfter s asks f
+    unfolding listingAt listingAfter
+    listing-step h f e = by (listedField s at floor) (listed-read s at floor) ∙ ap (listingAfter s asks) e
+      where
+        by : (f : ListedField) → ListedRead s at floor f → listingAt s at floor asks ≡ listingAfter s asks f
+        by f (ListedRead.wrong p q) = listing-is s (length s) (ListingRead.stop h (ListedRead.wrong p q)) (omega arith)
+        by f (ListedRead.high p q) = listing-is s (length s) (ListingRead.stop h (ListedRead.high p q)) (omega arith)
+        by f (ListedRead.low p q k) = listing-is s (length s) (ListingRead.stop h (ListedRead.low p q k)) (omega arith)
+        by f (ListedRead.value p q k) =
+            listing-is s (length s) (ListingRead.more h p q k (listing-read s (length s) _ _ _ (omega arith))) (omega arith)
+
+module _ (slot : CoreSlot) (limit : ℕ) (listing : Listing) where
+  -- A whole listing makes a whole request.
+  pub listing-whole : listing .reading ≡ Whole
+      → withListing slot limit listing ≡ record { reading = Whole; request = record { slot = slot; limit = limit; asks = listing .asks } }
+  unfolding withListing
+  listing-whole e = rw (e, withListing)
+
+  -- A refused listing makes a refused request.
+  pub listing-refused : (r : Refusal) → listing .reading ≡ Refused r → withListing slot limit listing ≡ refusedRequest r
+  unfolding withListing
+  listing-refused r e = rw (e, withListing)
+
+module _ (s : List ℕ) where
+  -- A request whose first field is refused.
+  pub request-no-slot : (r : Refusal) → slotField s 0 ≡ slot-refused r → readRequest s ≡ refusedRequest r
+  unfolding readRequest
+  request-no-slot r e = rw (e, readRequest)
+
+  module _ (slot : CoreSlot) (next : Cursor) (e : slotField s 0 ≡ slot-value slot next) where
+    -- A request whose second field is refused.
+    pub request-no-limit : (r : Refusal) → limitField s (next .at) ≡ limit-refused r → readRequest s ≡ refusedRequest r
+    unfolding readRequest
+    request-no-limit r f = rw (e, readRequest, f)
+
+    -- A request whose first two fields are read.
+    pub request-listing : (limit : ℕ) (third : Cursor) → limitField s (next .at) ≡ limit-value limit third
+        → readRequest s ≡ withListing slot limit (readListing (length s) s (third .at) 0 noAsks)
+    unfolding readRequest
+    request-listing limit third f = rw (e, readRequest, f)

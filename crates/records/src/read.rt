@@ -1,0 +1,284 @@
+// Reading a request, left to right. It refuses 3 for a field's form, 4 for a value out of range and 5 for an id that is not above the one before.
+ghost use lib.ListN.{length};
+ghost use mathlib.Core.Path.{_≡_};
+ghost use Prim.Native.Nat.{_+_, _^_, _≤_, _<_};
+ghost use Rattle.records.specs.declared.Refusal.{Refusal};
+ghost use Rattle.records.specs.Request.{contentAt, isField, isListing, limitField, listedAs, listedField, noAsks, numberAt, readListing, readRequest, refusedRequest, slotField, withListing};
+ghost use Rattle.slots.specs.Limits.{LARGEST-K};
+use super::Ask;
+use super::Cursor;
+use super::LimitField;
+use super::Listed;
+use super::ListedField;
+use super::Listing;
+use super::ReadRequest;
+use super::Reading;
+use super::Refusal;
+use super::Request;
+use super::SlotField;
+use slots::CoreSlot;
+use timetable::Timetable;
+
+// The tag of the request slot.
+const SLOT_TAG: u8 = 1;
+
+// The tag of T.
+const LIMIT_TAG: u8 = 2;
+
+// The tag of a listed partition.
+const LISTED_TAG: u8 = 3;
+
+// Reads a whole request, or gives the number and the place of the first field that is refused.
+pub fn read_request(s: &[u8]) -> ReadRequest
+    ensures { λ r. ⌜ r ≡ readRequest (now (s .entry)) ⌝ }
+{
+    let first = slot_field(s, Cursor { at: 0 });
+    let SlotField::Value(slot, second) = first else {
+        return refused_request(first.refusal());
+    };
+    let due = limit_field(s, second);
+    let LimitField::Value(limit, third) = due else {
+        return refused_request(due.refusal());
+    };
+    with_listing(slot, limit, read_listing(s, third))
+}
+
+// Reads the field of the request slot.
+pub fn slot_field(s: &[u8], c: Cursor) -> SlotField
+    ensures { λ r. ⌜ r ≡ slotField (now (s .entry)) (c .at) ⌝ }
+{
+    let at = c.at;
+    if !is_field(s, at, SLOT_TAG, 8) {
+        return SlotField::Refused(Refusal::of(Refusal::BAD_FIELD, at));
+    }
+    let slot = number_at(s, at + 3, 8);
+    if Timetable::LAST_SLOT < slot {
+        return SlotField::Refused(Refusal::of(Refusal::OUT_OF_RANGE, at));
+    }
+    SlotField::Value(CoreSlot(slot), Cursor { at: at + 11 })
+}
+
+// Reads the field of T.
+pub fn limit_field(s: &[u8], c: Cursor) -> LimitField
+    ensures { λ r. ⌜ r ≡ limitField (now (s .entry)) (c .at) ⌝ }
+{
+    let at = c.at;
+    if !is_field(s, at, LIMIT_TAG, 1) {
+        return LimitField::Refused(Refusal::of(Refusal::BAD_FIELD, at));
+    }
+    let limit = content_at(s, at, 0);
+    if Timetable::LONGEST < (limit as usize) {
+        return LimitField::Refused(Refusal::of(Refusal::OUT_OF_RANGE, at));
+    }
+    LimitField::Value(limit, Cursor { at: at + 4 })
+}
+
+// Reads the field of a listed partition, whose id is to be `floor` or above.
+pub fn listed_field(s: &[u8], c: Cursor, floor: u8) -> ListedField
+    ensures { λ r. ⌜ r ≡ listedField (now (s .entry)) (c .at) floor ⌝ }
+{
+    let at = c.at;
+    if is_field(s, at, LISTED_TAG, 3) {
+        let bound = content_at(s, at, 2);
+        if !is_listing(s, at) {
+            return ListedField::Refused(Refusal::of(Refusal::OUT_OF_RANGE, at));
+        }
+        if !timetable::is_bound(bound) {
+            return ListedField::Refused(Refusal::of(Refusal::OUT_OF_RANGE, at));
+        }
+        return listed_as(s, at, floor, bound, at + 6);
+    }
+    if !is_field(s, at, LISTED_TAG, 2) {
+        return ListedField::Refused(Refusal::of(Refusal::BAD_FIELD, at));
+    }
+    if !is_listing(s, at) {
+        return ListedField::Refused(Refusal::of(Refusal::OUT_OF_RANGE, at));
+    }
+    listed_as(s, at, floor, 0, at + 5)
+}
+
+// Reads the fields of the listed partitions up to the end of the record.
+fn read_listing(s: &[u8], c: Cursor) -> Listing
+    ensures { λ r. ⌜ r ≡ readListing (length (now (s .entry))) (now (s .entry)) (c .at) 0 noAsks ⌝ }
+{
+    let mut asks = no_asks();
+    let mut at = c.at;
+    let mut floor: u8 = 0;
+    while at < s.len() {
+        let field = listed_field(s, Cursor { at }, floor);
+        let ListedField::Value(listed, next) = field else {
+            let refusal = field.refusal();
+            return Listing {
+                reading: Reading::Refused(refusal),
+                asks,
+            };
+        };
+        let id = listed.id;
+        asks[id as usize] = Ask {
+            period: listed.period,
+            bound: listed.bound,
+        };
+        floor = id + 1;
+        at = next.at;
+    }
+    Listing {
+        reading: Reading::Whole,
+        asks,
+    }
+}
+
+// The request slot and T with the listing that was read, or its refusal.
+fn with_listing(slot: CoreSlot, limit: u8, listing: Listing) -> ReadRequest
+    ensures { λ r. ⌜ r ≡ withListing slot limit listing ⌝ }
+{
+    let reading = listing.reading;
+    let asks = listing.asks;
+    match reading {
+        Reading::Whole => ReadRequest {
+            reading: Reading::Whole,
+            request: Request { slot, limit, asks },
+        },
+        Reading::Refused(refusal) => refused_request(refusal),
+    }
+}
+
+// A refused request asks for nothing.
+fn refused_request(refusal: Refusal) -> ReadRequest
+    ensures { λ r. ⌜ r ≡ refusedRequest refusal ⌝ }
+{
+    let asks = no_asks();
+    ReadRequest {
+        reading: Reading::Refused(refusal),
+        request: Request {
+            slot: CoreSlot(0),
+            limit: 0,
+            asks,
+        },
+    }
+}
+
+// A listing that asks for nothing.
+fn no_asks() -> [Ask; 32]
+    ensures { λ r. ⌜ r ≡ noAsks ⌝ }
+{
+    [Ask {
+        period: 0,
+        bound: 0,
+    }; Timetable::IDS]
+}
+
+impl SlotField {
+    // Why the field was refused.
+    fn refusal(self) -> Refusal
+        ensures { λ r. ⌜ ((x : Refusal) → self ≡ SlotField.Refused x → r ≡ x) ⌝ }
+    {
+        match self {
+            SlotField::Refused(r) => r,
+            SlotField::Value(_, _) => Refusal::of(Refusal::ACCEPTED, 0),
+        }
+    }
+}
+
+impl LimitField {
+    // Why the field was refused.
+    fn refusal(self) -> Refusal
+        ensures { λ r. ⌜ ((x : Refusal) → self ≡ LimitField.Refused x → r ≡ x) ⌝ }
+    {
+        match self {
+            LimitField::Refused(r) => r,
+            LimitField::Value(_, _) => Refusal::of(Refusal::ACCEPTED, 0),
+        }
+    }
+}
+
+impl ListedField {
+    // Why the field was refused.
+    fn refusal(self) -> Refusal
+        ensures { λ r. ⌜ ((x : Refusal) → self ≡ ListedField.Refused x → r ≡ x) ⌝ }
+    {
+        match self {
+            ListedField::Refused(r) => r,
+            ListedField::Value(_, _) => Refusal::of(Refusal::ACCEPTED, 0),
+        }
+    }
+}
+
+// What the field at a place lists, unless its id is below `floor`.
+fn listed_as(s: &[u8], at: usize, floor: u8, bound: u8, next: usize) -> ListedField
+    requires { ⌜ (at + 5 ≤ length (now s)) × (contentAt (now s) at 1 ≤ LARGEST-K) ⌝ }
+    ensures { λ r. ⌜ r ≡ listedAs (now (s .entry)) at floor bound next ⌝ }
+{
+    let id = content_at(s, at, 0);
+    if id < floor {
+        return ListedField::Refused(Refusal::of(Refusal::NOT_RISING, at));
+    }
+    let period = power(content_at(s, at, 1));
+    ListedField::Value(Listed { id, period, bound }, Cursor { at: next })
+}
+
+// Whether the field at a place has an id from 0 to 31 and a k from 0 to 8.
+fn is_listing(s: &[u8], at: usize) -> bool
+    requires { ⌜ at + 5 ≤ length (now s) ⌝ }
+    ensures { λ r. ⌜ r ≡ isListing (now (s .entry)) at ⌝ }
+{
+    let id = content_at(s, at, 0);
+    let k = content_at(s, at, 1);
+    if Timetable::IDS <= (id as usize) {
+        return false;
+    }
+    k <= Timetable::LARGEST_K
+}
+
+// The period 2^k.
+fn power(k: u8) -> u16
+    requires { ⌜ k ≤ LARGEST-K ⌝ }
+    ensures { λ r. ⌜ r ≡ 2 ^ k ⌝ }
+{
+    let one: u16 = 1;
+    one << k
+}
+
+// Whether at a place stands a field of this tag and length, not cut off.
+fn is_field(s: &[u8], at: usize, tag: u8, size: u8) -> bool
+    ensures { λ r. ⌜ r ≡ isField (now (s .entry)) at tag size ⌝ }
+{
+    if s.len() < at {
+        return false;
+    }
+    if s.len() - at < 3 + (size as usize) {
+        return false;
+    }
+    if s[at] != tag {
+        return false;
+    }
+    number_at(s, at + 1, 2) == (size as u64)
+}
+
+// Byte n of the content of the field at a place.
+fn content_at(s: &[u8], at: usize, n: usize) -> u8
+    requires { ⌜ at + 3 + n < length (now s) ⌝ }
+    ensures { λ r. ⌜ r ≡ contentAt (now (s .entry)) at n ⌝ }
+{
+    s[at + 3 + n]
+}
+
+// The number that `count` bytes from a place write, big-endian.
+fn number_at(s: &[u8], from: usize, count: usize) -> u64
+    requires { ⌜ (from + count ≤ length (now s)) × (count ≤ 8) ⌝ }
+    ensures { λ r. ⌜ r ≡ numberAt (now (s .entry)) from count ⌝ }
+{
+    let mut number: u64 = 0;
+    let mut n: usize = 0;
+    while n < count {
+        number = 256 * number + wide(s[from + n]);
+        n += 1;
+    }
+    number
+}
+
+// A byte as a number.
+fn wide(b: u8) -> u64
+    ensures { λ r. ⌜ (r ≡ b) × (r < 256) ⌝ }
+{
+    b as u64
+}

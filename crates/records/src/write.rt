@@ -1,0 +1,83 @@
+// Writing an answer into an area that is lent. Nothing here is refused: the area is long enough for any answer.
+ghost use lib.ListN.{drop, length, take};
+ghost use lib.Seq.{sets};
+ghost use mathlib.Core.List.{[], _∷_, _++_};
+ghost use mathlib.Core.Path.{_≡_};
+ghost use Prim.Native.Nat.{_+_, _*_, _≤_};
+ghost use Rattle.records.specs.Answer.{answerRecord, field, offsetFields};
+ghost use Rattle.slots.specs.Limits.{AREA, IDS, LONGEST};
+use timetable::Entry;
+use timetable::Timetable;
+
+// The tag of the transition's length.
+const LENGTH_TAG: u8 = 0x10;
+
+// The tag of its owners.
+const OWNERS_TAG: u8 = 0x11;
+
+// The tag of a listed partition's offset.
+const OFFSET_TAG: u8 = 0x12;
+
+// Writes an answer at the start of the area and gives its length. The bytes after it stay as they were.
+pub fn write_answer(area: &mut [u8], size: u8, owners: [u8; 64], entries: [Entry; 32]) -> usize
+    requires { ⌜ (AREA ≤ length (now area)) × (size ≤ LONGEST) ⌝ }
+    ensures { λ r. ⌜ (r ≡ length (answerRecord size owners entries)) × (now (area .exit) ≡ answerRecord size owners entries ++ drop (length (answerRecord size owners entries)) (now (area .entry))) ⌝ }
+{
+    put_head(area, 0, LENGTH_TAG, 1);
+    area[3] = size;
+    put_head(area, 4, OWNERS_TAG, size);
+    let at = put_owners(area, 7, size, owners);
+    put_offsets(area, at, entries)
+}
+
+// The tag and the length of a field.
+fn put_head(area: &mut [u8], at: usize, tag: u8, size: u8)
+    requires { ⌜ at + 3 ≤ length (now area) ⌝ }
+    ensures { λ r. ⌜ now (area .exit) ≡ sets (now (area .entry)) at (tag ∷ 0 ∷ size ∷ []) ⌝ }
+{
+    area[at] = tag;
+    area[at + 1] = 0;
+    area[at + 2] = size;
+}
+
+// The owners of a transition, one byte each, and the place after them.
+fn put_owners(area: &mut [u8], from: usize, size: u8, owners: [u8; 64]) -> usize
+    requires { ⌜ (from + size ≤ length (now area)) × (size ≤ LONGEST) ⌝ }
+    ensures { λ r. ⌜ (r ≡ from + size) × (now (area .exit) ≡ sets (now (area .entry)) from (take size owners)) ⌝ }
+{
+    let count = size as usize;
+    let mut n: usize = 0;
+    while n < count {
+        area[from + n] = owners[n];
+        n += 1;
+    }
+    from + count
+}
+
+// The offset of each listed partition, ids rising, and the place after them.
+fn put_offsets(area: &mut [u8], from: usize, entries: [Entry; 32]) -> usize
+    requires { ⌜ from + 5 * IDS ≤ length (now area) ⌝ }
+    ensures { λ r. ⌜ (r ≡ from + length (offsetFields entries IDS)) × (now (area .exit) ≡ sets (now (area .entry)) from (offsetFields entries IDS)) ⌝ }
+{
+    let mut at = from;
+    let mut id: u8 = 0;
+    while (id as usize) < Timetable::IDS {
+        let e = entries[id as usize];
+        if 0 < e.period {
+            at = put_offset(area, at, id, e.offset);
+        }
+        id += 1;
+    }
+    at
+}
+
+// The field of one listed partition, and the place after it.
+fn put_offset(area: &mut [u8], at: usize, id: u8, offset: u8) -> usize
+    requires { ⌜ at + 5 ≤ length (now area) ⌝ }
+    ensures { λ r. ⌜ (r ≡ at + 5) × (now (area .exit) ≡ sets (now (area .entry)) at (field 0x12 (id ∷ offset ∷ []))) ⌝ }
+{
+    put_head(area, at, OFFSET_TAG, 2);
+    area[at + 3] = id;
+    area[at + 4] = offset;
+    at + 5
+}
