@@ -1,5 +1,5 @@
 -- Every definition that a case computes with: `unfolding rules` opens them all.
-use Rattle.change.specs.Change.{numberOf, placeOf, newTimetable, timetableOf, bytesOf, startPlan, searchOf, answerOf, refuse, answerTo, answer}
+use Rattle.change.specs.Change.{numberOf, placeOf, timetableOf, bytesOf, startPlan, searchOf, answerOf, answerTo, answer}
 use Rattle.change.specs.Stages.{askedBound, startEntry, startEntries, weightSum, overfull, behind, stageBehind, stageOverfull, stageEarly, stageFields, refusalBefore}
 use Rattle.frames.specs.Program.{isFrame, frameContent, frameRest, digits, decimal, answeredLength, lineOf, line, linesFrom, programLines}
 use Rattle.placement.specs.Placement.{demandOf, comesBefore, insert, ordered, isTaken, allFree, lastFree, placeFrom, placement, settle}
@@ -13,5 +13,5 @@ use Rattle.timetable.specs.Timetable.{each, cyclic, shortfallAfter, shortfallAt
 use Rattle.transition.specs.Transition.{moreUrgent, mostUrgent, isMissed, overAll, longer, ended, passed, placed, searchFrom}
 
 unfoldable pub rules : Unit {0}
-unfolding numberOf placeOf newTimetable timetableOf bytesOf startPlan searchOf answerOf refuse answerTo answer askedBound startShortfall startEntry startEntries weightSum overfull behind stageBehind stageOverfull stageEarly stageFields refusalBefore isFrame frameContent frameRest digits decimal answeredLength lineOf line linesFrom programLines demandOf comesBefore insert ordered isTaken allFree lastFree placeFrom placement settle field offsetFields answerRecord numberAt lengthAt contentAt isField slotField limitField isListing listedAs listedField readListing refusedRequest withListing readRequest every first weightOf overSlot keeps roomOf lastOffsetOf isOwner own shortfall requestInRange lengthInRange baseAsStated ownersListed isPeriod isBound entryInRange entryBlank entriesInRange shareNone noneShared unusedOwnersZero isSound each cyclic shortfallAfter shortfallAt moreUrgent mostUrgent isMissed overAll longer ended passed placed searchFrom
+unfolding numberOf placeOf timetableOf bytesOf startPlan searchOf answerOf answerTo answer askedBound startShortfall startEntry startEntries weightSum overfull behind stageBehind stageOverfull stageEarly stageFields refusalBefore isFrame frameContent frameRest digits decimal answeredLength lineOf line linesFrom programLines demandOf comesBefore insert ordered isTaken allFree lastFree placeFrom placement settle field offsetFields answerRecord numberAt lengthAt contentAt isField slotField limitField isListing listedAs listedField readListing refusedRequest withListing readRequest every first weightOf overSlot keeps roomOf lastOffsetOf isOwner own shortfall requestInRange lengthInRange baseAsStated ownersListed isPeriod isBound entryInRange entryBlank entriesInRange shareNone noneShared unusedOwnersZero isSound each cyclic shortfallAfter shortfallAt moreUrgent mostUrgent isMissed overAll longer ended passed placed searchFrom
 rules = tt

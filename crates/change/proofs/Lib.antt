@@ -3,3 +3,8 @@ pub mod Start
 pub mod Accept
 pub mod Answers
 pub mod Histories
+pub mod StageSteps
+pub mod EndingSteps
+pub mod Passing
+pub mod QueryLaws
+pub mod OneOutcome

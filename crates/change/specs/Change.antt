@@ -41,7 +41,7 @@ placeOf (Missed n) = 0
 placeOf (Exhausted n) = 0
 
 -- The new timetable: the request slot, the transition, and its base, request slot + length.
-unfoldable pub newTimetable : Request → ℕ → Plan → Timetable
+abbrev pub newTimetable : Request → ℕ → Plan → Timetable
 newTimetable r n plan = record {
   request = r .slot;
   length = n;
@@ -81,7 +81,7 @@ answerOf t r s = record {
 }
 
 -- A refusal before the search returns its number and place, 0 tries, no bytes and the timetable as given.
-unfoldable pub refuse : Timetable → Refusal → Answer
+abbrev pub refuse : Timetable → Refusal → Answer
 refuse t r = record { number = r .number; place = r .place; tries = 0; timetable = t; bytes = [] }
 
 -- The answer to a request, as it was read, with an answer area of a given size: the stages before, then the search.
@@ -94,11 +94,11 @@ unfoldable pub answer : Timetable → List ℕ → ℕ → Answer
 answer t s area = answerTo t (readRequest s) area
 
 -- An answer as it is returned: with the number of bytes written.
-unfoldable pub outcomeOf : Answer → Outcome
+abbrev pub outcomeOf : Answer → Outcome
 outcomeOf a = record { number = a .number; place = a .place; tries = a .tries; written = length (a .bytes); timetable = a .timetable }
 
 -- An answer written to an area: its record, and the bytes after it as they were. (A refusal has no record, so no byte changes.)
-unfoldable pub written : Answer → List ℕ → List ℕ
+abbrev pub written : Answer → List ℕ → List ℕ
 written a area = a .bytes ++ drop (length (a .bytes)) area
 
 -- What a request with the bytes s and an answer area returns.

@@ -3,3 +3,4 @@ pub mod Refused
 pub mod Change
 pub mod Queries
 pub mod Controller
+pub mod Coded

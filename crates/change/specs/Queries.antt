@@ -14,7 +14,7 @@ use Rattle.timetable.specs.Sound.{isSound}
 use Rattle.timetable.specs.Timetable.{lists, ownerAt, shortfallAt, slicesAt}
 
 -- A refused owner query returns zeros beside its number.
-unfoldable pub refuseOwner : ℕ → OwnerAnswer
+abbrev pub refuseOwner : ℕ → OwnerAnswer
 refuseOwner number = record { number = number; place = 0; owner = 0 }
 
 -- Owner query (slot): refuses 1, then 4 (slot above the limit), then 6 (slot before the last accepted request slot).
@@ -26,7 +26,7 @@ ownerQuery t slot =
     (record { number = ACCEPTED; place = 0; owner = ownerNumber (ownerAt t slot) })))
 
 -- A refused standing query returns zeros beside its number.
-unfoldable pub refuseStanding : ℕ → StandingAnswer
+abbrev pub refuseStanding : ℕ → StandingAnswer
 refuseStanding number = record { number = number; place = 0; shortfall = 0; slices = sliceCount 0 }
 
 -- The standing of id i at a slot: the shortfall at the slot's start and the slices had from the base up to there.

@@ -14,7 +14,7 @@ use Prim.Native.Nat.{ℕ, zero, suc, _+_, _-_, _*_, _≤_, _<_}
 use Rattle.change.proofs.Answers.{Gets, Passes, refused, accepted, no-slot, no-length, gets, accepted-continues}
 use Rattle.change.proofs.Histories.{history-valid}
 use Rattle.change.proofs.Stages.{stages, stages-only}
-use Rattle.change.specs.Change.{Answer, answer, answerTo, answerOf, outcomeOf, written, outcome, areaAfter, refuse, searchOf, startPlan}
+use Rattle.change.specs.Change.{Answer, answer, answerTo, answerOf, outcome, areaAfter, refuse, searchOf, startPlan}
 use Rattle.change.specs.Controller.{Sent, historyOf}
 use Rattle.change.specs.Queries.{ownerQuery, standing, standingQuery}
 use Rattle.change.specs.Refused.{Refuses, passes}
@@ -68,7 +68,6 @@ area-enough t read area e = at (subst (Refuses t read area) e (stages t read are
     at (passes s a w l f g) = a
 
 held : (t : Timetable) (s : List ℕ) (area : ℕ) → Held t area (answer t s area)
-unfolding refuse
 held t s area = at (answer t s area) (gets t s area)
   where
     at : (a : Answer) → Gets t s area a → Held t area a
@@ -80,7 +79,7 @@ held t s area = at (answer t s area) (gets t s area)
     at a (no-length e p b) = record { short = omega arith; fits = omega arith; refused = λ n. (refl, refl) }
 
 pub sound-stays : SoundStays
-unfolding outcomeOf written outcome areaAfter
+unfolding outcome areaAfter
 sound-stays = record {
   empty = empty-sound;
   accepted = λ t s area e. sound-is _ (accepted-continues t s (length area) e .sound);
@@ -143,7 +142,7 @@ searched t s area e =
     ]) e
 
 pub tries : Tries
-unfolding answerOf searchOf refuse answer answerTo
+unfolding answerOf searchOf answer answerTo
 tries = record {
   before = λ t s area r e.
       ap (λ (o : Option Refusal). (elim o as (λ _. Answer) [

@@ -13,7 +13,7 @@ use lib.Dec.{eqb}
 use Prim.Native.Nat.{ℕ, zero, suc, _+_, _-_, _*_, _≤_, _<_}
 use Rattle.change.proofs.Answers.{Gets, Passes, refused, accepted, no-slot, no-length, gets, acceptedAs, refusedAs}
 use Rattle.change.proofs.Start.{start-fit}
-use Rattle.change.specs.Change.{Answer, newTimetable, answer, startPlan, refuse}
+use Rattle.change.specs.Change.{Answer, answer, startPlan}
 use Rattle.change.specs.Stages.{refusalBefore}
 use Rattle.placement.proofs.Complete.{placement-none, placement-some}
 use Rattle.placement.specs.Any.{Lists, CyclicPlacement}
@@ -156,7 +156,6 @@ module _ (t : Timetable) (s : List ℕ) (area : ℕ) (pass : refusalBefore t (re
   Schedule n = (n ≤ r .limit) × HasPlacement plan n × ((m : ℕ) → m < n → PassedOver plan m)
 
   accepted-to : (n : ℕ) (a : Answer) → Gets t s area a → Accepted n a → Schedule n
-  unfolding refuse newTimetable
   accepted-to n a (refused q e l h) z = absurd (not-refused q e)
   accepted-to n a (accepted e p k l b q h ps f) z =
       let m : k ≤ LONGEST = omega (arith, p .range .limit) in
@@ -165,7 +164,6 @@ module _ (t : Timetable) (s : List ℕ) (area : ℕ) (pass : refusalBefore t (re
   accepted-to n a (no-length e p b) z = absurd (omega (arith, z .0))
 
   accepted-from : (n : ℕ) (a : Answer) → Gets t s area a → Schedule n → Accepted n a
-  unfolding newTimetable
   accepted-from n a (refused q e l h) w = absurd (not-refused q e)
   accepted-from n a (accepted e p k l b q h ps f) w =
       let m : k ≤ LONGEST = omega (arith, p .range .limit) in
@@ -188,7 +186,6 @@ module _ (t : Timetable) (s : List ℕ) (area : ℕ) (pass : refusalBefore t (re
   Wanting = (n : ℕ) → n ≤ r .limit → PassedOver plan n ⊎ CannotReach plan n
 
   refused-to : (a : Answer) → Gets t s area a → a .number ≡ NO-SCHEDULE → Wanting
-  unfolding refuse
   refused-to a (refused q e l h) z n m = absurd (not-refused q e)
   refused-to a (accepted e p k l b q h ps f) z n m = absurd (omega arith)
   refused-to a (no-slot e p k l b q h f) z n m = at (decLt n (suc k))

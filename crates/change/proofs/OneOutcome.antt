@@ -1,0 +1,30 @@
+-- The contract of each public function leaves one possible outcome: any two outcomes that satisfy it are equal. Assumes nothing.
+use mathlib.Core.List.{List}
+use mathlib.Core.Path.{_≡_, sym, _∙_}
+use Prim.Native.Nat.{ℕ}
+use Rattle.change.specs.Change.{outcome, areaAfter}
+use Rattle.change.specs.declared.Outcome.{Outcome}
+use Rattle.change.specs.declared.OwnerAnswer.{OwnerAnswer}
+use Rattle.change.specs.declared.StandingAnswer.{StandingAnswer}
+use Rattle.change.specs.Queries.{ownerQuery, standingQuery}
+use Rattle.slots.specs.declared.CoreSlot.{CoreSlot}
+use Rattle.timetable.specs.declared.Timetable.{Timetable}
+use Rattle.timetable.specs.Timetable.{emptyTimetable}
+
+-- `change`: what it returns, and the answer area afterwards.
+pub change-unique : (t : Timetable) (s area : List ℕ) (r r′ : Outcome) (out out′ : List ℕ)
+    → (r ≡ outcome t s area) × (out ≡ areaAfter t s area) → (r′ ≡ outcome t s area) × (out′ ≡ areaAfter t s area) → (r ≡ r′) × (out ≡ out′)
+change-unique t s area r r′ out out′ p q = (p .0 ∙ sym (q .0), p .1 ∙ sym (q .1))
+
+-- `owner_query`.
+pub owner-unique : (t : Timetable) (slot : CoreSlot) (r r′ : OwnerAnswer) → r ≡ ownerQuery t slot → r′ ≡ ownerQuery t slot → r ≡ r′
+owner-unique t slot r r′ p q = p ∙ sym q
+
+-- `standing_query`.
+pub standing-unique : (t : Timetable) (id : ℕ) (slot : CoreSlot) (r r′ : StandingAnswer)
+    → r ≡ standingQuery t id slot → r′ ≡ standingQuery t id slot → r ≡ r′
+standing-unique t id slot r r′ p q = p ∙ sym q
+
+-- `Timetable::empty`.
+pub empty-unique : (r r′ : Timetable) → r ≡ emptyTimetable → r′ ≡ emptyTimetable → r ≡ r′
+empty-unique r r′ p q = p ∙ sym q

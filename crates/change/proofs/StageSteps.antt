@@ -1,0 +1,225 @@
+-- The stages before the search, test by test, as the code makes them. Assumes nothing.
+use borrow.Author.Tests.{lt-ltb, le-ltb, le-leb, lt-leb, eq-eqb, ne-eqb}
+use lib.Dec.{leb, ltb}
+use lib.ListN.{set, replicate}
+use mathlib.Core.Bool.{Bool, true, false, cond, not}
+use mathlib.Core.List.{List}
+use mathlib.Core.Logic.{_≢_}
+use mathlib.Core.Option.{Option, none, some}
+use mathlib.Core.Path.{_≡_, refl, sym, ap, ap₂, _∙_}
+use native.Mathlib.Decide.{decLe}
+use native.Mathlib.Numerals.{add-one}
+use native.Mathlib.Omega.{arith}
+use Prim.Native.Nat.{ℕ, suc, _+_, _-_, _*_, _≤_, _<_}
+use Rattle.change.specs.Coded.{lowestOf, readingOf, entering, isBehind}
+use Rattle.change.specs.declared.Lowest.{Lowest}
+use Rattle.change.specs.declared.Lowest.the-variants.{Id, Nobody}
+use Rattle.change.specs.Stages.{askedBound, startEntry, startEntries, weightSum, overfull, behind}
+use Rattle.change.specs.Stages.{stageBehind, stageOverfull, stageEarly, stageFields, refusalBefore}
+use Rattle.records.specs.declared.Ask.{Ask}
+use Rattle.records.specs.declared.Reading.{Reading}
+use Rattle.records.specs.declared.Reading.the-variants.{Whole, Refused}
+use Rattle.records.specs.declared.ReadRequest.{ReadRequest}
+use Rattle.records.specs.declared.Refusal.{Refusal}
+use Rattle.records.specs.declared.Request.{Request}
+use Rattle.records.specs.Numbers.{NOT-SOUND, SMALL-AREA, TOO-EARLY, OVERFULL, BEHIND}
+use Rattle.records.specs.Request.{askOf, refusal}
+use Rattle.slots.specs.Below.{first}
+use Rattle.slots.specs.declared.CoreSlot.{CoreSlot}
+use Rattle.slots.specs.Limits.{IDS, WHOLE, AREA}
+use Rattle.slots.specs.Shortfall.{keeps, weightOf}
+use Rattle.timetable.proofs.EntryLaws.{weight-le}
+use Rattle.timetable.proofs.Ranges.{in-range-is}
+use Rattle.timetable.proofs.ScanLaws.{first-more, first-end, first-here}
+use Rattle.timetable.proofs.Sound.{sound-from}
+use Rattle.timetable.specs.declared.Entry.{Entry}
+use Rattle.timetable.specs.declared.Timetable.{Timetable}
+use Rattle.timetable.specs.Sound.{entryInRange, isSound}
+use Rattle.timetable.specs.Timetable.{noEntry, entryOf, isListed, weight, each, shortfallAfter, shortfallAt, startShortfall}
+
+-- ---- one entry
+
+pub short-bound : (a : Ask) → a .bound ≡ 0 → 1 ≡ askedBound a
+unfolding askedBound
+short-bound a e = rw (eq-eqb (a .bound) 0 e)
+
+pub given-bound : (a : Ask) → a .bound ≢ 0 → a .bound ≡ askedBound a
+unfolding askedBound
+given-bound a e = rw (ne-eqb (a .bound) 0 e)
+
+-- The shortfall that an entry has n slots after the base; one that is not listed starts at 0.
+abbrev pub shortfallThen : Entry → ℕ → ℕ
+shortfallThen old n = cond (isListed old) (shortfallAfter old n) 0
+
+pub listed-shortfall : (old : Entry) (n s : ℕ) → isListed old ≡ true → s ≡ shortfallAfter old n → s ≡ shortfallThen old n
+listed-shortfall old n s l e = rw l e
+
+pub new-shortfall : (old : Entry) (n s : ℕ) → isListed old ≡ false → s ≡ 0 → s ≡ shortfallThen old n
+new-shortfall old n s l e = rw l e
+
+pub enter-none : (old : Entry) (n : ℕ) (ask : Ask) → ask .period ≡ 0 → noEntry ≡ entering old n ask
+unfolding entering
+enter-none old n ask e = rw (le-ltb 0 (ask .period) (omega (arith, e)))
+
+pub enter-asked : (old : Entry) (n : ℕ) (ask : Ask) (b s : ℕ) → ask .period ≢ 0 → b ≡ askedBound ask
+    → s ≡ shortfallThen old n
+    → _≡_ {A = Entry} (record { period = ask .period; offset = 0; bound = b; shortfall = s }) (entering old n ask)
+unfolding entering
+enter-asked old n ask b s h p q =
+    rw (lt-ltb 0 (ask .period) (omega (arith, h))) (λ i. record { period = ask .period; offset = 0; bound = p i; shortfall = q i })
+
+-- A listed entry of a sound timetable is in range.
+pub listed-in-range : (t : Timetable) → isSound t ≡ true → (i : ℕ) → i < IDS → isListed (entryOf (t .entries) i) ≡ true
+    → entryInRange (entryOf (t .entries) i) ≡ true
+listed-in-range t s i k l = in-range-is (entryOf (t .entries) i) (sound-from t s .ranged .listed i k l)
+
+-- ---- all entries
+
+-- The entries below an id have entered.
+abbrev pub entered : Timetable → List Ask → ℕ → ℕ → List Entry
+entered t asks n id = each (λ i e. entering (entryOf (t .entries) i) n (askOf asks i)) id (replicate IDS noEntry)
+
+pub entered-next : (t : Timetable) (asks : List Ask) (n id : ℕ) (es : List Entry) (e : Entry) → es ≡ entered t asks n id
+    → e ≡ entering (entryOf (t .entries) id) n (askOf asks id) → set es id e ≡ entered t asks n (id + 1)
+unfolding each
+entered-next t asks n id es e p q = rw add-one (ap₂ (λ (l : List Entry) (x : Entry). set l id x) p q)
+
+pub entered-all : (t : Timetable) (slot : CoreSlot) (asks : List Ask) (es : List Entry) (m : ℕ) → IDS ≤ m → m ≤ IDS
+    → es ≡ entered t asks (slot .0 - t .base .0) m → es ≡ startEntries t slot asks
+unfolding startEntries startEntry startShortfall shortfallAt entering
+entered-all t slot asks es m a b e = let k : m ≡ IDS = omega arith in e ∙ ap (entered t asks (slot .0 - t .base .0)) k
+
+-- ---- stage 8
+
+pub behind-unlisted : (e : Entry) → isListed e ≡ false → false ≡ isBehind e
+unfolding isBehind
+behind-unlisted e l = rw l
+
+leb-not : (a b : ℕ) → leb a b ≡ not (ltb b a)
+leb-not a b = at (decLe a b)
+  where
+    at : Dec (a ≤ b) → leb a b ≡ not (ltb b a)
+    at (yes h) = rw (le-leb a b h, le-ltb b a h)
+    at (no h) = let k : b < a = omega arith in rw (lt-leb a b k, lt-ltb b a k)
+
+pub behind-listed : (e : Entry) → isListed e ≡ true → leb (WHOLE * e .bound) (e .shortfall) ≡ isBehind e
+unfolding isBehind keeps
+behind-listed e l = rw l (leb-not (WHOLE * e .bound) (e .shortfall))
+
+-- The test of an id.
+abbrev pub behindTest : List Entry → ℕ → Bool
+behindTest es i = isBehind (entryOf es i)
+
+module _ (es : List Entry) (n : ℕ) where
+  pub behind-here : n < IDS → first n (behindTest es) ≡ none → behindTest es n ≡ true → Id n ≡ lowestOf (behind es)
+  unfolding lowestOf behind isBehind
+  behind-here l e h = sym (ap lowestOf (first-here (behindTest es) n IDS l e h))
+
+  pub behind-end : IDS ≤ n → n ≤ IDS → first n (behindTest es) ≡ none → Nobody ≡ lowestOf (behind es)
+  unfolding lowestOf behind isBehind
+  behind-end a b e = sym (ap lowestOf (first-end (behindTest es) n IDS a b e))
+
+-- ---- stage 7
+
+pub weight-told : (p w : ℕ) → w ≡ weightOf p → w ≤ WHOLE
+weight-told p w h = omega (arith, h, weight-le p)
+
+-- The test of an id.
+abbrev pub overTest : List Entry → ℕ → Bool
+overTest es i = ltb WHOLE (weightSum es (suc i))
+
+module _ (es : List Entry) (n s w : ℕ) (p : s ≡ weightSum es n) (q : w ≡ weight (entryOf es n)) (e : first n (overTest es) ≡ none) where
+  sum-next : s + w ≡ weightSum es (suc n)
+  unfolding weightSum
+  sum-next = ap₂ _+_ p q
+
+  pub over-here : n < IDS → WHOLE < s + w → Id n ≡ lowestOf (overfull es)
+  unfolding lowestOf overfull
+  over-here l h = sym (ap lowestOf (first-here (overTest es) n IDS l e (lt-ltb WHOLE (weightSum es (suc n)) (omega (arith, sum-next)))))
+
+  pub over-next : s + w ≤ WHOLE → (s + w ≡ weightSum es (n + 1)) × (first (n + 1) (overTest es) ≡ none)
+  over-next h =
+      (rw add-one sum-next, first-more (overTest es) n e (le-ltb WHOLE (weightSum es (suc n)) (omega (arith, sum-next))))
+
+pub over-end : (es : List Entry) (n : ℕ) → IDS ≤ n → n ≤ IDS → first n (overTest es) ≡ none → Nobody ≡ lowestOf (overfull es)
+unfolding lowestOf overfull
+over-end es n a b e = sym (ap lowestOf (first-end (overTest es) n IDS a b e))
+
+-- ---- stages 6 to 8
+
+-- Who a stage names is refused with its number; where it names nobody the next stage is asked.
+named : ℕ → Option Refusal → Lowest → Option Refusal
+named number next (Id i) = some (refusal number i)
+named number next Nobody = next
+
+overfull-named : (es : List Entry) → stageOverfull es ≡ named OVERFULL (stageBehind es) (lowestOf (overfull es))
+unfolding stageOverfull lowestOf named
+overfull-named es = at (overfull es)
+  where
+    at : (o : Option ℕ) → (elim o as (λ _. Option Refusal) [ none ↦ stageBehind es | some i ↦ some (refusal OVERFULL i) ])
+        ≡ named OVERFULL (stageBehind es) (lowestOf o)
+    at none = refl
+    at (some i) = refl
+
+behind-named : (es : List Entry) → stageBehind es ≡ named BEHIND none (lowestOf (behind es))
+unfolding stageBehind lowestOf named
+behind-named es = at (behind es)
+  where
+    at : (o : Option ℕ) → (elim o as (λ _. Option Refusal) [ none ↦ none | some i ↦ some (refusal BEHIND i) ])
+        ≡ named BEHIND none (lowestOf o)
+    at none = refl
+    at (some i) = refl
+
+module _ (t : Timetable) (r : Request) where
+  pub early-too : r .slot .0 < t .base .0 → readingOf (stageEarly t r) ≡ Refused (refusal TOO-EARLY 0)
+  unfolding readingOf stageEarly
+  early-too l = rw (lt-ltb (r .slot .0) (t .base .0) l)
+
+  module _ (es : List Entry) (l : t .base .0 ≤ r .slot .0) (k : es ≡ startEntries t (r .slot) (r .asks)) where
+    later : stageEarly t r ≡ named OVERFULL (stageBehind es) (lowestOf (overfull es))
+    unfolding stageEarly
+    later = rw (le-ltb (r .slot .0) (t .base .0) l) (ap stageOverfull (sym k) ∙ overfull-named es)
+
+    pub early-overfull : (i : ℕ) → lowestOf (overfull es) ≡ Id i → readingOf (stageEarly t r) ≡ Refused (refusal OVERFULL i)
+    unfolding readingOf named
+    early-overfull i h = ap readingOf (later ∙ ap (named OVERFULL (stageBehind es)) h)
+
+    module _ (h : lowestOf (overfull es) ≡ Nobody) where
+      last : (n : Lowest) → lowestOf (behind es) ≡ n → readingOf (stageEarly t r) ≡ readingOf (named BEHIND none n)
+      unfolding named
+      last n b = ap readingOf (later ∙ ap (named OVERFULL (stageBehind es)) h ∙ behind-named es ∙ ap (named BEHIND none) b)
+
+      pub early-behind : (i : ℕ) → lowestOf (behind es) ≡ Id i → readingOf (stageEarly t r) ≡ Refused (refusal BEHIND i)
+      unfolding readingOf named
+      early-behind i b = last (Id i) b
+
+      pub early-passes : lowestOf (behind es) ≡ Nobody → readingOf (stageEarly t r) ≡ Whole
+      unfolding readingOf named
+      early-passes b = last Nobody b
+
+-- ---- all stages
+
+module _ (t : Timetable) (read : ReadRequest) (area : ℕ) where
+  pub before-unsound : isSound t ≡ false → readingOf (refusalBefore t read area) ≡ Refused (refusal NOT-SOUND 0)
+  unfolding readingOf refusalBefore
+  before-unsound s = rw s
+
+  pub before-small : isSound t ≡ true → area < AREA → readingOf (refusalBefore t read area) ≡ Refused (refusal SMALL-AREA 0)
+  unfolding readingOf refusalBefore
+  before-small s a = rw (s, lt-ltb area AREA a)
+
+  fields : Reading → Option Refusal
+  fields reading = elim reading [ Whole ↦ stageEarly t (read .request) | Refused r ↦ some r ]
+
+  past-area : isSound t ≡ true → AREA ≤ area → (reading : Reading) → read .reading ≡ reading → refusalBefore t read area ≡ fields reading
+  unfolding refusalBefore stageFields fields
+  past-area s a reading e = rw (s, le-ltb area AREA a) (ap fields e)
+
+  pub before-field : isSound t ≡ true → AREA ≤ area → (r : Refusal) → read .reading ≡ Refused r → readingOf (refusalBefore t read area) ≡ Refused r
+  unfolding readingOf fields
+  before-field s a r e = ap readingOf (past-area s a (Refused r) e)
+
+  pub before-early : isSound t ≡ true → AREA ≤ area → read .reading ≡ Whole
+      → readingOf (refusalBefore t read area) ≡ readingOf (stageEarly t (read .request))
+  unfolding fields
+  before-early s a e = ap readingOf (past-area s a Whole e)

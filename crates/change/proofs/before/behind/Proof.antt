@@ -1,0 +1,69 @@
+-- `behind` meets its contract: the loop's invariant is that no id below `id` is behind. Assumes nothing.
+use borrow.Author.Needs.{needs}
+use mathlib.Core.Option.{none}
+use mathlib.Core.Path.{_≡_, refl, sym, _∙_}
+use native.Mathlib.Omega.{arith}
+use Prim.Native.Nat.{_-_, _≤_}
+use Rattle.change.proofs.StageSteps.{behindTest, behind-here, behind-end}
+use Rattle.slots.specs.Below.{first}
+use Rattle.slots.specs.Limits.{IDS}
+use Rattle.timetable.proofs.ScanLaws.{first-more}
+use Rattle.change.proofs.before.behind.Statement.{statement}
+use Rattle.change.proofs.before.behind.Tie as tie
+
+abbrev Inv-loop : tie.InvT-loop
+Inv-loop entries id₀ id = (id ≤ IDS) × (first id (behindTest entries) ≡ none)
+
+abbrev μ-loop : tie.MeasureT-loop
+μ-loop entries id₀ id = IDS - id
+
+loop-holds : tie.Need-loop-holds Inv-loop μ-loop
+unfolding first
+loop-holds c = (omega arith, refl)
+
+mul-e : tie.Need-mul-e Inv-loop μ-loop
+mul-e c = search needs
+
+array-copy-out-e : tie.Need-array-copy-out-e Inv-loop μ-loop
+array-copy-out-e c = search needs
+
+is-behind-requires : tie.Need-is-behind-requires Inv-loop μ-loop
+is-behind-requires c κs = tt
+
+returns : tie.Need-returns Inv-loop μ-loop
+returns c =
+    let i = c .before .before .before in
+    let l = i .before .loop in
+    behind-here (i .before .before .args .t1) (l .id) (i .loop-test .taken) (l .inv .1) (sym (c .before .is-behind .ensures) ∙ c .if1 .taken)
+
+add-id : tie.Need-add-id Inv-loop μ-loop
+add-id c = omega arith
+
+loop-less : tie.Need-loop-less Inv-loop μ-loop
+loop-less c = omega arith
+
+loop-again : tie.Need-loop-again Inv-loop μ-loop
+loop-again c =
+    let k = c .before .before .before .before in
+    (omega arith, first-more (behindTest (k .before .args .t1)) (k .loop .id) (k .loop .inv .1) (sym (c .before .is-behind .ensures) ∙ c .if1 .left))
+
+returns-2 : tie.Need-returns-2 Inv-loop μ-loop
+returns-2 c =
+    let l = c .before .loop in
+    behind-end (c .before .before .args .t1) (l .id) (c .loop-test .left) (l .inv .0) (l .inv .1)
+
+pub behind-spec : {M : Type 1} → statement M
+behind-spec =
+    tie.close
+    (tie.spec
+    Inv-loop
+    μ-loop
+    loop-holds
+    mul-e
+    array-copy-out-e
+    is-behind-requires
+    returns
+    add-id
+    loop-less
+    loop-again
+    returns-2)

@@ -1,0 +1,17 @@
+-- `changer::length_of` meets its contract: its test is that of `lengthOf`.
+-- Assumes nothing.
+use borrow.Author.Tests.{eq-eqb, ne-eqb}
+use Rattle.changer.specs.Places.{lengthOf}
+use Rattle.changer.proofs.length_of.Statement.{statement}
+use Rattle.changer.proofs.length_of.Tie as tie
+
+returns : tie.Need-returns
+unfolding lengthOf
+returns c = simp (eq-eqb _ _ (c .if1 .taken))
+
+returns-2 : tie.Need-returns-2
+unfolding lengthOf
+returns-2 c = simp (ne-eqb _ _ (c .if1 .left))
+
+pub length-of-spec : {M : Type 1} → statement M
+length-of-spec = tie.close (tie.spec returns returns-2)

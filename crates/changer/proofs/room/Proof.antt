@@ -1,0 +1,24 @@
+-- `changer::room` meets its contract: its test is that of `lineAt`, and an empty buffer has room.
+-- Assumes nothing.
+use borrow.Author.Tests.{le-leb, lt-leb}
+use Rattle.changer.specs.Places.{lineAt}
+use borrow.Author.Needs.{needs}
+use Rattle.changer.proofs.room.Statement.{statement}
+use Rattle.changer.proofs.room.Tie as tie
+
+sub-if1 : tie.Need-sub-if1
+sub-if1 c = search needs
+
+returns : tie.Need-returns
+unfolding lineAt
+returns c = (search needs, simp (le-leb _ _ (c .if1 .taken)))
+
+flush-requires : tie.Need-flush-requires
+flush-requires c κs = search needs
+
+returns-2 : tie.Need-returns-2
+unfolding lineAt
+returns-2 c = (search needs, simp (lt-leb _ _ (c .before .if1 .left)))
+
+pub room-spec : {M : Type 1} → statement M
+room-spec = tie.close (tie.spec sub-if1 returns flush-requires returns-2)
