@@ -1,8 +1,10 @@
--- A controller's history is valid: each accepted timetable continues the one before. By induction on the requests. Assumes nothing.
-use borrow.Author.Tests.{eqb-true}
+-- A controller's history: an accepted request puts its timetable in front, a refused one changes nothing, by the test of its number; so the history is
+-- valid: each accepted timetable continues the one before, by induction on the requests. Assumes nothing.
+use borrow.Author.Tests.{eq-eqb, eqb-true, ne-eqb}
 use lib.Dec.{eqb}
 use mathlib.Core.Bool.{Bool, true, false, cond}
 use mathlib.Core.List.{List, [], _∷_}
+use mathlib.Core.Logic.{_≢_}
 use mathlib.Core.Path.{_≡_, refl}
 use Rattle.change.proofs.Answers.{accepted-continues}
 use Rattle.change.specs.Change.{answer}
@@ -11,6 +13,19 @@ use Rattle.records.specs.Numbers.{ACCEPTED}
 use Rattle.timetable.proofs.Run.{Valid}
 use Rattle.timetable.specs.History.{History, present}
 
+module _ (h : History) (q : Sent) where
+  -- After an accepted request its timetable is the last one.
+  pub sent-accepted : answer (present h) (q .bytes) (q .area) .number ≡ ACCEPTED
+      → send h q ≡ answer (present h) (q .bytes) (q .area) .timetable ∷ h
+  unfolding send
+  sent-accepted e = rw (eq-eqb _ _ e)
+
+  -- After a refused one nothing has changed.
+  pub sent-refused : answer (present h) (q .bytes) (q .area) .number ≢ ACCEPTED → send h q ≡ h
+  unfolding send
+  sent-refused n = rw (ne-eqb _ _ n)
+
+-- The history after any requests is valid.
 pub history-valid : (qs : List Sent) → Valid (historyOf qs)
 unfolding historyOf send
 history-valid [] = tt

@@ -17,7 +17,7 @@ module _ (es : List Entry) where
   pub length-settle : (ps : List Place) → length (settle es ps) ≡ length es
   unfolding settle
   length-settle [] = refl
-  length-settle (p ∷ ps) = length-set (settle es ps) (p .id) (withOffset (p .offset) (entryOf es (p .id))) ∙ length-settle ps
+  length-settle (p ∷ ps) = length-set (settle es ps) (p .id) _ ∙ length-settle ps
 
   -- A place's id has its offset, where no other place of that id has another.
   pub settle-at : (ps : List Place) (q : Place) → In q ps → q .id < length es → ((r : Place) → In r ps → r .id ≡ q .id → r .offset ≡ q .offset)

@@ -31,12 +31,12 @@ count-most es (suc n) = at (isListed (entryOf es n)) (count-most es n)
 pub offsets-length : (es : List Entry) (n : ℕ) → length (offsetFields es n) ≡ 5 * listedCount es n
 unfolding offsetFields listedCount field one
 offsets-length es zero = refl
-offsets-length es (suc n) = at (isListed (entryOf es n)) (offsets-length es n)
+offsets-length es (suc n) = at (isListed (entryOf es n)) _ refl (offsets-length es n)
   where
-    at : (b : Bool) → length (offsetFields es n) ≡ 5 * listedCount es n
-        → length (offsetFields es n ++ cond b (field 0x12 (n ∷ entryOf es n .offset ∷ [])) []) ≡ 5 * (listedCount es n + one b)
-    at true h = simp length-append (omega arith)
-    at false h = simp length-append (omega arith)
+    at : (b : Bool) (f : List ℕ) → length f ≡ 5 → length (offsetFields es n) ≡ 5 * listedCount es n
+        → length (offsetFields es n ++ cond b f []) ≡ 5 * (listedCount es n + one b)
+    at true f l h = simp length-append (omega arith)
+    at false f l h = simp length-append (omega arith)
 
 module _ (n : ℕ) (owners : List ℕ) (es : List Entry) where
   -- An answer's length, whatever its owners.

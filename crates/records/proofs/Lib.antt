@@ -9,3 +9,4 @@ pub mod RoundTrip
 pub mod NumberLaws
 pub mod NextStep
 pub mod AreaLaws
+pub mod AnswerPlaces

@@ -23,28 +23,11 @@ unfolding one overSlot
 over-zero true w s n = omega arith
 over-zero false w s n = omega arith
 
--- Two runs that agree up to a slot have the same shortfalls there.
-pub shortfall-agree : (i : ℕ) (a b : Run) (t : ℕ) → ((x : ℕ) → x ≤ t → a x ≡ b x) → shortfall a i t ≡ shortfall b i t
-unfolding shortfall own
-shortfall-agree i a b zero h = refl
-shortfall-agree i a b (suc t) h =
-    let k = shortfall-agree i a b t (λ x l. h x (omega arith)) in
-    let e = h t (omega arith) in
-    let f = h (suc t) (omega arith) in
-    λ j. cond (f j .newly i) 0 (overSlot (isOwner i (e j .owner)) (e j .weight i) (k j))
-
-pub over-agree : (i : ℕ) (a b : Run) (t : ℕ) → ((x : ℕ) → x ≤ t → a x ≡ b x) → shortfallOver a i t ≡ shortfallOver b i t
-unfolding shortfallOver own
-over-agree i a b t h =
-    let k = shortfall-agree i a b t h in
-    let e = h t (omega arith) in
-    λ j. overSlot (isOwner i (e j .owner)) (e j .weight i) (k j)
-
 module _ (run : Run) (i : ℕ) where
   -- The shortfall at a slot where i is not newly listed is the one at the end of the slot before.
   pub shortfall-suc : (t : ℕ) → run (suc t) .newly i ≡ false → shortfall run i (suc t) ≡ shortfallOver run i t
   unfolding shortfall shortfallOver
-  shortfall-suc t e = ap (λ (b : Bool). cond b 0 (shortfallOver run i t)) e
+  shortfall-suc t e = rw e
 
   -- Where i is newly listed the shortfall is 0.
   pub shortfall-newly : (t : ℕ) → run t .newly i ≡ true → shortfall run i t ≡ 0
@@ -179,3 +162,20 @@ module _ (run : Run) (i : ℕ) where
           let k : KeepsBound run i (w .0) (w .1) = f (w .0) (w .1) (w .2) (w .3) in
           let e : run (w .0 + w .1) .bound i ≡ run t .bound i = ap (λ (x : ℕ). run x .bound i) (w .2) in
           omega (arith, w .4)
+
+-- Two runs that agree up to a slot have the same shortfalls there.
+pub shortfall-agree : (i : ℕ) (a b : Run) (t : ℕ) → ((x : ℕ) → x ≤ t → a x ≡ b x) → shortfall a i t ≡ shortfall b i t
+unfolding shortfall own
+shortfall-agree i a b zero h = refl
+shortfall-agree i a b (suc t) h =
+    let k = shortfall-agree i a b t (λ x l. h x (omega arith)) in
+    let e = h t (omega arith) in
+    let f = h (suc t) (omega arith) in
+    λ j. cond (f j .newly i) 0 (overSlot (isOwner i (e j .owner)) (e j .weight i) (k j))
+
+pub over-agree : (i : ℕ) (a b : Run) (t : ℕ) → ((x : ℕ) → x ≤ t → a x ≡ b x) → shortfallOver a i t ≡ shortfallOver b i t
+unfolding shortfallOver own
+over-agree i a b t h =
+    let k = shortfall-agree i a b t h in
+    let e = h t (omega arith) in
+    λ j. overSlot (isOwner i (e j .owner)) (e j .weight i) (k j)
