@@ -2,16 +2,15 @@
 use borrow.Author.Tests.{le-leb}
 use lib.ListN.{length, replicate}
 use mathlib.Core.Bool.{Bool, cond}
-use mathlib.Core.List.{List, [], _∷_}
+use mathlib.Core.List.{_∷_}
 use mathlib.Core.Option.{Option, none, some}
 use mathlib.Core.Path.{_≡_, refl, ap, _∙_}
 use native.Mathlib.Omega.{arith}
 use Prim.Native.Nat.{ℕ, zero, suc, _≤_}
 use Rattle.cases.proofs.Rules.{rules}
-use Rattle.cases.specs.Cases.{Case, Hold, Given, answered, entry, given, head, lists, pair, requestE, table, afterB, refused, triesE, casesE}
+use Rattle.cases.specs.Cases.{Hold, answered, entry, given, head, lists, pair, requestE, table, afterB, refused, triesE, casesE}
 use Rattle.change.specs.Change.{startPlan, searchOf, answerOf, refuse, answerTo, answer}
 use Rattle.change.specs.Stages.{refusalBefore}
-use Rattle.records.specs.declared.Ask.{Ask}
 use Rattle.records.specs.declared.LimitField.{LimitField}
 use Rattle.records.specs.declared.LimitField.the-variants.{Value as limit-value, Refused as limit-refused}
 use Rattle.records.specs.declared.Reading.the-variants.{Whole}

@@ -1,5 +1,5 @@
 -- The whole table holds: the definitions give what document 01 says, case by case. Assumes nothing.
-use mathlib.Core.Path.{_≡_, refl}
+use mathlib.Core.Path.{refl}
 use native.Mathlib.Omega.{arith}
 use Rattle.cases.proofs.CaseE.{holds-E}
 use Rattle.cases.proofs.Rules.{rules}

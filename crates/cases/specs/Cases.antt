@@ -3,7 +3,7 @@ use lib.Dec.{eqb, ltb, leb}
 use lib.ListN.{length, replicate}
 use mathlib.Core.Bool.{false, cond, _||_, _&&_}
 use mathlib.Core.List.{List, [], _∷_, _++_}
-use mathlib.Core.Option.{Option, none, some}
+use mathlib.Core.Option.{none, some}
 use mathlib.Core.Path.{_≡_}
 use Prim.Native.Nat.{ℕ, zero, suc, _+_}
 use Rattle.change.specs.Change.{Answer, answer}
@@ -12,7 +12,7 @@ use Rattle.frames.specs.Program.{programLines}
 use Rattle.records.specs.Answer.{field}
 use Rattle.records.specs.Request.{readRequest}
 use Rattle.slots.specs.Clocks.{coreSlot}
-use Rattle.slots.specs.Limits.{AREA, IDS, LONGEST}
+use Rattle.slots.specs.Limits.{AREA, LONGEST}
 use Rattle.slots.specs.Shortfall.{roomOf, lastOffsetOf}
 use Rattle.slots.specs.Slots.{Run, shortfall}
 use Rattle.timetable.specs.declared.Entry.{Entry}

@@ -2,26 +2,21 @@
 use lib.ListN.{getD, length, List·getD-eq-default}
 use mathlib.Core.Bool.{Bool, true, false}
 use mathlib.Core.List.{List}
-use mathlib.Core.Option.{Option, none, some}
+use mathlib.Core.Option.{some}
 use mathlib.Core.Path.{_≡_, refl, sym, ap, ap₂, _∙_, subst}
 use native.Mathlib.Decide.{ℕ-discrete, decLt}
 use native.Mathlib.Nat.{zero-add}
 use native.Mathlib.Omega.{arith}
-use Prim.Native.Nat.{ℕ, zero, suc, _+_, _-_, _*_, _≤_, _<_}
-use Rattle.change.proofs.Stages.{stages}
+use Prim.Native.Nat.{ℕ, _+_, _-_, _*_, _≤_, _<_}
 use Rattle.change.proofs.Start.{start-fit, start-listed}
-use Rattle.change.specs.Change.{Answer, numberOf, newTimetable, timetableOf, startPlan, searchOf, answerOf, refuse, answerTo, answer}
-use Rattle.change.specs.Refused.{IsBehind, Refuses, not-sound, small-area, bad-field, too-early, overfull, behind, passes}
-use Rattle.change.specs.Stages.{startEntries, refusalBefore}
+use Rattle.change.specs.Change.{newTimetable, startPlan}
+use Rattle.change.specs.Refused.{IsBehind}
+use Rattle.change.specs.Stages.{startEntries}
 use Rattle.placement.proofs.Complete.{settle-entry, settle-ranged, settle-apart, settle-unlisted}
 use Rattle.placement.proofs.Settle.{length-settle}
 use Rattle.placement.specs.Placement.{Place, placement, settle}
-use Rattle.records.proofs.ReadLaws.{RequestRange, read-in-range, refused-in-range}
-use Rattle.records.specs.declared.ReadRequest.{ReadRequest}
-use Rattle.records.specs.declared.Refusal.{Refusal}
+use Rattle.records.proofs.ReadLaws.{RequestRange}
 use Rattle.records.specs.declared.Request.{Request}
-use Rattle.records.specs.Numbers.{ACCEPTED}
-use Rattle.records.specs.Request.{readRequest}
 use Rattle.slots.proofs.Below.{true-false}
 use Rattle.slots.specs.Limits.{IDS, LONGEST, WHOLE}
 use Rattle.timetable.proofs.Ranges.{InRange}
@@ -32,13 +27,11 @@ use Rattle.timetable.specs.declared.Timetable.{Timetable}
 use Rattle.timetable.specs.Timetable.{noEntry, entryOf, isListed, lists, weight, withOffset, withShortfall, startShortfall, transitionShortfall}
 use Rattle.transition.proofs.Plans.{Fit}
 use Rattle.transition.proofs.Reach.{reach-fit}
-use Rattle.transition.proofs.Search.{PassedFirst, Ended, found, missed, exhausted, search-ends}
+use Rattle.transition.proofs.Search.{PassedFirst}
 use Rattle.transition.proofs.Walk.{walk-agree, owners-stay, walked}
-use Rattle.transition.specs.declared.Ending.the-variants.{Found, Missed, Exhausted}
 use Rattle.transition.specs.declared.Plan.{Plan}
-use Rattle.transition.specs.declared.Searched.{Searched}
 use Rattle.transition.specs.Reach.{reach}
-use Rattle.transition.specs.Transition.{placed, searchFrom}
+use Rattle.transition.specs.Transition.{placed}
 
 -- A listed entry stands at an id.
 listed-below : (es : List Entry) → length es ≡ IDS → (u : ℕ) → isListed (entryOf es u) ≡ true → u < IDS
@@ -90,7 +83,7 @@ module _ (t : Timetable) (r : Request) (q : RequestRange r) (later : t .base .0 
       at false e = ap isListed (settle-unlisted (p .entries) (at-k .ranged) (at-k .entries) ps rule4 i l e) ∙ e
 
   new-sound : Sound new
-  unfolding new newTimetable placed
+  unfolding new placed
   new-sound = record {
     request = q .slot;
     size = small;
@@ -152,20 +145,20 @@ module _ (t : Timetable) (r : Request) (q : RequestRange r) (later : t .base .0 
   new-kept : (i : ℕ) → i < IDS → lists new i ≡ true → (n : ℕ) → n ≤ k
       → transitionShortfall (new .owners) i (weight (entryOf (new .entries) i)) (startShortfall t (new .request) i) n
       < WHOLE * entryOf (new .entries) i .bound
-  unfolding new newTimetable placed walk
+  unfolding new placed walk
   new-kept i ik il n l =
       subst (λ (e : Entry). transitionShortfall (p .owners) i (weight e) (startShortfall t (r .slot) i) n < WHOLE * e .bound) (sym (settled i ik il))
       (subst (λ (x : ℕ). transitionShortfall (p .owners) i (weight (s i ik il)) x n < WHOLE * s i ik il .bound) (starts i ik il) (bears i ik il n l))
 
   new-arrives : (i : ℕ) → i < IDS → lists new i ≡ true
       → transitionShortfall (new .owners) i (weight (entryOf (new .entries) i)) (startShortfall t (new .request) i) k ≡ entryOf (new .entries) i .shortfall
-  unfolding new newTimetable placed walk
+  unfolding new placed walk
   new-arrives i ik il =
       ap₂ (λ (w x : ℕ). transitionShortfall (p .owners) i w x k) (ap weight (settled i ik il)) (sym (starts i ik il)) ∙ arrives i ik il
 
   -- The new timetable continues the one before.
   pub found-continues : Continues t (newTimetable r k (placed p ps))
-  unfolding new newTimetable placed
+  unfolding new placed
   found-continues = record {
     sound = new-sound;
     shape = length-settle (p .entries) ps ∙ at-k .entries;

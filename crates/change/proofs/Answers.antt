@@ -1,14 +1,12 @@
 -- What a request gets, whole: a refusal before the search, an acceptance at the length found, or the refusal for want of a schedule. Assumes nothing.
-use lib.ListN.{length}
 use mathlib.Core.List.{List, []}
 use mathlib.Core.Option.{Option, none, some}
 use mathlib.Core.Path.{_≡_, refl, sym, ap, _∙_, subst}
 use native.Mathlib.Nat.{zero-add}
 use native.Mathlib.Omega.{arith}
-use Prim.Native.Nat.{ℕ, zero, suc, _+_, _≤_, _<_}
+use Prim.Native.Nat.{ℕ, suc, _≤_, _<_}
 use Rattle.change.proofs.Accept.{found-continues}
 use Rattle.change.proofs.Stages.{stages}
-use Rattle.change.proofs.Start.{start-fit}
 use Rattle.change.specs.Change.{Answer, numberOf, placeOf, newTimetable, timetableOf, bytesOf, startPlan, searchOf, answerOf, refuse, answerTo, answer}
 use Rattle.change.specs.Refused.{IsBehind, Refuses, not-sound, small-area, bad-field, too-early, overfull, behind, passes}
 use Rattle.change.specs.Stages.{startEntries, refusalBefore}
@@ -22,7 +20,6 @@ use Rattle.records.specs.Request.{readRequest}
 use Rattle.slots.specs.Limits.{IDS}
 use Rattle.timetable.proofs.Run.{Continues}
 use Rattle.timetable.specs.declared.Timetable.{Timetable}
-use Rattle.transition.proofs.Plans.{Fit}
 use Rattle.transition.proofs.Search.{PassedFirst, Ended, found, missed, exhausted, search-ends}
 use Rattle.transition.specs.declared.Plan.{Plan}
 use Rattle.transition.specs.declared.Searched.{Searched}
@@ -109,7 +106,6 @@ module _ (t : Timetable) (s : List ℕ) (area : ℕ) where
 
   -- An accepted request's timetable continues the one before.
   pub accepted-continues : answer t s area .number ≡ ACCEPTED → Continues t (answer t s area .timetable)
-  unfolding refuse
   accepted-continues = at (answer t s area) gets
     where
       at : (a : Answer) → Gets t s area a → a .number ≡ ACCEPTED → Continues t (a .timetable)

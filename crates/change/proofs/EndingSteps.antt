@@ -1,19 +1,14 @@
 -- The answer of a search, by its ending. Assumes nothing.
-use mathlib.Core.List.{[]}
 use mathlib.Core.Path.{_≡_, ap}
 use Prim.Native.Nat.{ℕ}
+use Rattle.change.proofs.Answers.{refusedAs}
 use Rattle.change.specs.Change.{Answer, numberOf, placeOf, timetableOf, bytesOf, answerOf}
 use Rattle.change.specs.Coded.{acceptedAs}
 use Rattle.records.specs.declared.Request.{Request}
-use Rattle.records.specs.Numbers.{NO-SCHEDULE}
 use Rattle.timetable.specs.declared.Timetable.{Timetable}
 use Rattle.transition.specs.declared.Ending.{Ending}
 use Rattle.transition.specs.declared.Ending.the-variants.{Found, Missed, Exhausted}
 use Rattle.transition.specs.declared.Searched.{Searched}
-
--- The answer for want of a schedule.
-abbrev pub unanswered : Timetable → ℕ → Answer
-unanswered t tries = record { number = NO-SCHEDULE; place = 0; tries = tries; timetable = t; bytes = [] }
 
 module _ (t : Timetable) (r : Request) (s : Searched) where
   -- The answer, were this the ending.
@@ -30,10 +25,10 @@ module _ (t : Timetable) (r : Request) (s : Searched) where
   unfolding answerOf ended numberOf placeOf timetableOf bytesOf
   answer-found n e = ap ended e
 
-  pub answer-missed : (n : ℕ) → s .ending ≡ Missed n → answerOf t r s ≡ unanswered t (s .tries)
+  pub answer-missed : (n : ℕ) → s .ending ≡ Missed n → answerOf t r s ≡ refusedAs t (s .tries)
   unfolding answerOf ended numberOf placeOf timetableOf bytesOf
   answer-missed n e = ap ended e
 
-  pub answer-exhausted : (n : ℕ) → s .ending ≡ Exhausted n → answerOf t r s ≡ unanswered t (s .tries)
+  pub answer-exhausted : (n : ℕ) → s .ending ≡ Exhausted n → answerOf t r s ≡ refusedAs t (s .tries)
   unfolding answerOf ended numberOf placeOf timetableOf bytesOf
   answer-exhausted n e = ap ended e

@@ -11,9 +11,11 @@ use native.Mathlib.Decide.{decLe}
 use native.Mathlib.Numerals.{add-one}
 use native.Mathlib.Omega.{arith}
 use Prim.Native.Nat.{ℕ, suc, _+_, _-_, _*_, _≤_, _<_}
+use Rattle.change.proofs.Stages.{stages-only}
 use Rattle.change.specs.Coded.{lowestOf, readingOf, entering, isBehind}
 use Rattle.change.specs.declared.Lowest.{Lowest}
 use Rattle.change.specs.declared.Lowest.the-variants.{Id, Nobody}
+use Rattle.change.specs.Refused.{not-sound, small-area, bad-field}
 use Rattle.change.specs.Stages.{askedBound, startEntry, startEntries, weightSum, overfull, behind}
 use Rattle.change.specs.Stages.{stageBehind, stageOverfull, stageEarly, stageFields, refusalBefore}
 use Rattle.records.specs.declared.Ask.{Ask}
@@ -201,25 +203,20 @@ module _ (t : Timetable) (r : Request) where
 
 module _ (t : Timetable) (read : ReadRequest) (area : ℕ) where
   pub before-unsound : isSound t ≡ false → readingOf (refusalBefore t read area) ≡ Refused (refusal NOT-SOUND 0)
-  unfolding readingOf refusalBefore
-  before-unsound s = rw s
+  unfolding readingOf
+  before-unsound s = ap readingOf (stages-only t read area _ (not-sound s))
 
   pub before-small : isSound t ≡ true → area < AREA → readingOf (refusalBefore t read area) ≡ Refused (refusal SMALL-AREA 0)
-  unfolding readingOf refusalBefore
-  before-small s a = rw (s, lt-ltb area AREA a)
-
-  fields : Reading → Option Refusal
-  fields reading = elim reading [ Whole ↦ stageEarly t (read .request) | Refused r ↦ some r ]
-
-  past-area : isSound t ≡ true → AREA ≤ area → (reading : Reading) → read .reading ≡ reading → refusalBefore t read area ≡ fields reading
-  unfolding refusalBefore stageFields fields
-  past-area s a reading e = rw (s, le-ltb area AREA a) (ap fields e)
+  unfolding readingOf
+  before-small s a = ap readingOf (stages-only t read area _ (small-area s a))
 
   pub before-field : isSound t ≡ true → AREA ≤ area → (r : Refusal) → read .reading ≡ Refused r → readingOf (refusalBefore t read area) ≡ Refused r
-  unfolding readingOf fields
-  before-field s a r e = ap readingOf (past-area s a (Refused r) e)
+  unfolding readingOf
+  before-field s a r e = ap readingOf (stages-only t read area _ (bad-field s a r e))
 
   pub before-early : isSound t ≡ true → AREA ≤ area → read .reading ≡ Whole
       → readingOf (refusalBefore t read area) ≡ readingOf (stageEarly t (read .request))
-  unfolding fields
-  before-early s a e = ap readingOf (past-area s a Whole e)
+  unfolding refusalBefore stageFields
+  before-early s a e =
+      rw (s, le-ltb area AREA a)
+      (ap (λ (x : Reading). readingOf (elim x as (λ _. Option Refusal) [ Whole ↦ stageEarly t (read .request) | Refused r ↦ some r ])) e)

@@ -1,14 +1,11 @@
 -- The stages before the search give each number exactly when document 01 says. By cases, in their order. Assumes nothing.
-use borrow.Author.Tests.{lt-ltb, le-ltb, ltb-true, ltb-false, not-true, not-false}
+use borrow.Author.Tests.{lt-ltb, le-ltb, ltb-true, ltb-false, not-true}
 use lib.Dec.{ltb}
 use mathlib.Core.Bool.{Bool, true, false, cond, not, _&&_}
 use mathlib.Core.List.{List}
-use mathlib.Core.Logic.{_≢_}
 use mathlib.Core.Option.{Option, none, some}
-use mathlib.Core.Path.{_≡_, refl, sym, ap, ap₂, _∙_, subst}
-use native.Mathlib.Decide.{ℕ-discrete, decLt}
-use native.Mathlib.Omega.{arith}
-use Prim.Native.Nat.{ℕ, suc, _*_, _≤_, _<_}
+use mathlib.Core.Path.{_≡_, refl, ap, ap₂, _∙_}
+use Prim.Native.Nat.{ℕ, suc, _*_, _≤_}
 use Rattle.change.specs.Refused.{IsBehind, Fits, Refuses, not-sound, small-area, bad-field, too-early, overfull, behind, passes}
 use Rattle.change.specs.Stages as Stages
 use Rattle.change.specs.Stages.{startEntries, weightSum, stageBehind, stageOverfull, stageEarly, stageFields, refusalBefore}

@@ -1,7 +1,7 @@
 -- Document 01, "The change" and "What each number says": the whole outcome of a request.
 use lib.ListN.{drop, length, replicate}
 use mathlib.Core.List.{List, [], _++_}
-use mathlib.Core.Option.{Option, none, some}
+use mathlib.Core.Option.{none, some}
 use Prim.Native.Nat.{ℕ, _+_}
 use Rattle.change.specs.declared.Outcome.{Outcome}
 use Rattle.change.specs.Stages.{startEntries, refusalBefore}

@@ -1,5 +1,5 @@
 -- Document 01, "What each number says": when each number is given before the search, and with which place. The lowest stage wins.
-use mathlib.Core.Bool.{Bool, true, false}
+use mathlib.Core.Bool.{true, false}
 use mathlib.Core.List.{List}
 use mathlib.Core.Option.{Option, none, some}
 use mathlib.Core.Path.{_≡_}

@@ -1,7 +1,7 @@
 -- Document 01, "What each number says": the stages before the search, in their order. The lowest stage wins.
 use lib.Dec.{eqb, ltb}
 use lib.ListN.{replicate}
-use mathlib.Core.Bool.{Bool, cond, not, _&&_}
+use mathlib.Core.Bool.{cond, not, _&&_}
 use mathlib.Core.List.{List}
 use mathlib.Core.Option.{Option, none, some}
 use Prim.Native.Nat.{ℕ, zero, suc, _+_}

@@ -72,7 +72,11 @@ pub fn start_plan(t: Timetable, asked: Request) -> Plan
 }
 
 // The entries at the request slot.
-fn start_entries(t: Timetable, slot: CoreSlot, asks: [Ask; 32]) -> [Entry; 32]
+fn start_entries(
+    t: Timetable,
+    slot: CoreSlot,
+    asks: [Ask; Timetable::IDS],
+) -> [Entry; Timetable::IDS]
     requires { ⌜ isSound t ≡ true ⌝ }
     requires { ⌜ t .base .0 ≤ slot .0 ⌝ }
     ensures { λ r. ⌜ r ≡ startEntries t slot asks ⌝ }
@@ -131,7 +135,7 @@ fn asked_bound(ask: Ask) -> u8
 }
 
 // The id at which the running sum of the weights, ids rising, first passes 256.
-fn overfull(entries: [Entry; 32]) -> Lowest
+fn overfull(entries: [Entry; Timetable::IDS]) -> Lowest
     ensures { λ r. ⌜ r ≡ lowestOf (overfull entries) ⌝ }
 {
     let mut sum: u64 = 0;
@@ -148,7 +152,7 @@ fn overfull(entries: [Entry; 32]) -> Lowest
 }
 
 // The lowest listed id whose shortfall is not below 256 R.
-fn behind(entries: [Entry; 32]) -> Lowest
+fn behind(entries: [Entry; Timetable::IDS]) -> Lowest
     ensures { λ r. ⌜ r ≡ lowestOf (behind entries) ⌝ }
 {
     let mut id: usize = 0;

@@ -1,57 +1,25 @@
--- What a listed entry in range asks for, as numbers: its last offset is found by one product, and its rank tells its demand again. Putting the ranks in
--- place one by one gives the demands in order. Assumes nothing.
+-- What a listed entry in range asks for, as numbers: its rank tells its demand again. Putting the ranks in place one by one gives the demands in order.
+-- Assumes nothing.
 use borrow.Author.Tests.{lt-ltb, le-ltb}
 use lib.ListN.{length, take}
 use mathlib.Core.Bool.{true}
 use mathlib.Core.List.{List}
-use mathlib.Core.Path.{_≡_, refl, ap, _∙_}
-use native.Mathlib.Nat.{div-add-mod', div-eq-of-lt-le, mod-lt, mul-assoc, mul-comm, mul-le-mul-right}
+use mathlib.Core.Path.{_≡_, refl}
 use native.Mathlib.Numerals.{add-one}
 use native.Mathlib.Omega.{arith}
-use Prim.Native.Nat.{ℕ, suc, _+_, _-_, _*_, _/_, _%_, _≤_, _<_}
+use Prim.Native.Nat.{ℕ, _+_, _*_, _/_, _%_, _≤_, _<_}
 use Rattle.placement.proofs.Last.{last-range}
 use Rattle.placement.proofs.Ranking.{insert-ascending, insert-demand}
 use Rattle.placement.specs.Placed.{demandAt, demandsOf, insertRank, Ascending}
 use Rattle.placement.specs.Placement.{demandOf, ordered}
 use Rattle.slots.specs.Limits.{IDS, WHOLE}
-use Rattle.slots.specs.Shortfall.{roomOf, lastOffsetOf}
-use Rattle.timetable.proofs.Cycle.{weight-pos}
-use Rattle.timetable.proofs.Ranges.{InRange, period-whole}
+use Rattle.timetable.proofs.Ranges.{InRange}
 use Rattle.timetable.proofs.Sound.{ranged-from}
 use Rattle.timetable.specs.declared.Entry.{Entry}
 use Rattle.timetable.specs.Sound.{entriesInRange}
-use Rattle.timetable.specs.Timetable.{entryOf, lastOffset, room, weight}
-
--- A quotient by the weight is a product with the period, in 256ths.
-scaled : (x p w : ℕ) → p * w ≡ WHOLE → 0 < w → 0 < p → x * p / WHOLE ≡ x / w
-scaled x p w e pos q =
-    let whole : w * p ≡ WHOLE = mul-comm w p ∙ e in
-    let k : x * p ≡ x / w * WHOLE + x % w * p =
-    omega (arith, ap (λ (y : ℕ). y * p) (div-add-mod' x w), mul-assoc (x / w) w p, ap (λ (y : ℕ). x / w * y) whole) in
-    let l : x % w * p < WHOLE = omega (arith, mul-le-mul-right {m = suc (x % w)} {n = w} p (mod-lt x pos)) in
-    div-eq-of-lt-le {k = x / w} WHOLE (omega arith) (omega arith)
-
--- What an entry can still owe, by its period and in 256ths.
-abbrev pub scaledRoom : Entry → ℕ
-scaledRoom e = (WHOLE * e .bound - 1 - e .shortfall) * e .period / WHOLE
+use Rattle.timetable.specs.Timetable.{entryOf, lastOffset}
 
 module _ (e : Entry) (r : InRange e) where
-  -- That is its room.
-  room-is : scaledRoom e ≡ room e
-  unfolding roomOf
-  room-is =
-      let whole : e .period * weight e ≡ WHOLE = period-whole (e .period) (r .period) in
-      scaled (WHOLE * e .bound - 1 - e .shortfall) (e .period) (weight e) whole (weight-pos e whole (r .inside)) (omega (arith, r .inside))
-
-  -- A room below the period is the last offset, and otherwise the last of the period is.
-  pub last-room : scaledRoom e < e .period → scaledRoom e ≡ lastOffset e
-  unfolding lastOffsetOf
-  last-room h = omega (arith, room-is)
-
-  pub last-period : e .period ≤ scaledRoom e → e .period - 1 ≡ lastOffset e
-  unfolding lastOffsetOf
-  last-period h = omega (arith, room-is)
-
   -- The last offset is below the period.
   pub last-inside : lastOffset e < e .period
   last-inside = last-range e r (lastOffset e) (omega arith) .inside

@@ -1,27 +1,26 @@
 -- Each promise of specs/Promises.antt, kept. Assumes nothing.
-use borrow.Author.Tests.{le-ltb, lt-leb, le-leb}
-use lib.Dec.{leb, ltb}
+use borrow.Author.Tests.{le-ltb, lt-leb}
 use lib.ListN.{drop, getD, length, length-append, length-drop}
 use lib.Seq.{getD-append-add, getD-drop}
-use mathlib.Core.Bool.{Bool, true, false, cond, not}
+use mathlib.Core.Bool.{true}
 use mathlib.Core.List.{List, [], _++_}
-use mathlib.Core.Logic.{_↔_, _≢_, _⊎_, inl, inr}
+use mathlib.Core.Logic.{_≢_}
 use mathlib.Core.Option.{Option, none, some}
 use mathlib.Core.Path.{_≡_, refl, sym, ap, ap₂, _∙_, subst}
 use native.Mathlib.Nat.{add-sub-of-le}
 use native.Mathlib.Omega.{arith}
-use Prim.Native.Nat.{ℕ, zero, suc, _+_, _-_, _*_, _≤_, _<_}
-use Rattle.change.proofs.Answers.{Gets, Passes, refused, accepted, no-slot, no-length, gets, accepted-continues}
+use Prim.Native.Nat.{ℕ, suc, _+_, _-_, _*_, _≤_}
+use Rattle.change.proofs.Answers.{Gets, refused, accepted, no-slot, no-length, gets, accepted-continues}
 use Rattle.change.proofs.Histories.{history-valid}
 use Rattle.change.proofs.Stages.{stages, stages-only}
 use Rattle.change.specs.Change.{Answer, answer, answerTo, answerOf, outcome, areaAfter, refuse, searchOf, startPlan}
-use Rattle.change.specs.Controller.{Sent, historyOf}
+use Rattle.change.specs.Controller.{historyOf}
 use Rattle.change.specs.Queries.{ownerQuery, standing, standingQuery}
 use Rattle.change.specs.Refused.{Refuses, passes}
 use Rattle.change.specs.Stages.{refusalBefore}
 use Rattle.placement.proofs.Complete.{placement-none, placement-some}
 use Rattle.placement.specs.Any.{CyclicPlacement}
-use Rattle.placement.specs.Placement.{Place, placement, settle}
+use Rattle.placement.specs.Placement.{Place, placement}
 use Rattle.promises.proofs.Lengths.{accepted-iff, refused-iff}
 use Rattle.promises.specs.Promises.{SoundStays, Windows, OneOwner, PlacementComplete, Shortest, Tries, Stages, OneForm, KeptShortfall, Queries}
 use Rattle.records.proofs.AnswerLaws.{answer-length}
@@ -34,11 +33,11 @@ use Rattle.records.specs.declared.Refusal.{Refusal}
 use Rattle.records.specs.Numbers.{ACCEPTED}
 use Rattle.records.specs.Request.{readRequest}
 use Rattle.slots.proofs.Below.{count-most}
-use Rattle.slots.proofs.Windows.{Attains, attains, kept-windows, window-le}
+use Rattle.slots.proofs.Windows.{attains, kept-windows, window-le}
 use Rattle.slots.specs.Below.{count}
 use Rattle.slots.specs.Clocks.{coreSlot, sliceCount}
 use Rattle.slots.specs.Limits.{IDS, WHOLE, AREA, LAST-SLOT}
-use Rattle.slots.specs.Slots.{entitlement, supply, shortfall, Since, Listed}
+use Rattle.slots.specs.Slots.{entitlement, supply, shortfall}
 use Rattle.timetable.proofs.Listing.{empty-sound, in-force-sound, present-in-force, present-sound, since-weights}
 use Rattle.timetable.proofs.Owner.{serves-one}
 use Rattle.timetable.proofs.Run.{kept-run, present-run, slices-run}
@@ -46,9 +45,9 @@ use Rattle.timetable.proofs.Sound.{ranged-from, sound-is}
 use Rattle.timetable.specs.declared.Entry.{Entry}
 use Rattle.timetable.specs.declared.Timetable.{Timetable}
 use Rattle.timetable.specs.Owner.{ownerNumber}
-use Rattle.timetable.specs.History.{History, present, inForce, runOf}
-use Rattle.timetable.specs.Sound.{entriesInRange, isSound}
-use Rattle.timetable.specs.Timetable.{entryOf, lists, ownerAt, shortfallAt, slicesAt}
+use Rattle.timetable.specs.History.{present, inForce, runOf}
+use Rattle.timetable.specs.Sound.{entriesInRange}
+use Rattle.timetable.specs.Timetable.{lists, ownerAt, slicesAt}
 use Rattle.transition.proofs.Reach.{tries-count}
 use Rattle.transition.specs.Reach.{isSearched}
 

@@ -1,17 +1,17 @@
 -- Lengths in demand 3's words: rule 4 fails at a length exactly if the length is passed over, and a slot that the urgent rule cannot give breaks a bound
 -- whoever gets it. Assumes nothing.
 use lib.ListN.{length}
-use mathlib.Core.Bool.{Bool, true, false}
+use mathlib.Core.Bool.{false}
 use mathlib.Core.List.{List}
 use mathlib.Core.Logic.{_↔_, _⊎_, inl, inr}
 use mathlib.Core.Option.{Option, none, some}
 use mathlib.Core.Path.{_≡_, refl, sym, ap, _∙_, subst}
-use native.Mathlib.Decide.{decLt, decLe, ℕ-discrete}
+use native.Mathlib.Decide.{decLt}
 use native.Mathlib.Nat.{zero-add}
 use native.Mathlib.Omega.{arith}
 use lib.Dec.{eqb}
-use Prim.Native.Nat.{ℕ, zero, suc, _+_, _-_, _*_, _≤_, _<_}
-use Rattle.change.proofs.Answers.{Gets, Passes, refused, accepted, no-slot, no-length, gets, acceptedAs, refusedAs}
+use Prim.Native.Nat.{ℕ, suc, _-_, _*_, _≤_, _<_}
+use Rattle.change.proofs.Answers.{Gets, Passes, refused, accepted, no-slot, no-length, gets}
 use Rattle.change.proofs.Start.{start-fit}
 use Rattle.change.specs.Change.{Answer, answer, startPlan}
 use Rattle.change.specs.Stages.{refusalBefore}
@@ -27,17 +27,16 @@ use Rattle.slots.specs.Limits.{IDS, LONGEST, WHOLE}
 use Rattle.slots.specs.Shortfall.{overSlot}
 use Rattle.slots.specs.Slots.{isOwner}
 use Rattle.timetable.proofs.Ranges.{InRange}
-use Rattle.timetable.specs.declared.Entry.{Entry}
 use Rattle.timetable.specs.declared.Timetable.{Timetable}
 use Rattle.timetable.specs.Timetable.{entryOf, isListed, weight}
-use Rattle.transition.proofs.Plans.{Fit, Step, Longer, longer-told, step-fit, over-at, over-listed, overEntry}
+use Rattle.transition.proofs.Plans.{Fit, Step, Longer, longer-told, step-fit, over-at, overEntry}
 use Rattle.transition.proofs.Reach.{reach-fit, reach-past}
 use Rattle.transition.proofs.Search.{PassedFirst}
 use Rattle.transition.proofs.UrgentRule.{missed-breaks}
 use Rattle.transition.proofs.Walk.{step-before, reach-before}
 use Rattle.transition.specs.declared.Plan.{Plan}
 use Rattle.transition.specs.Reach.{reach, AnyoneBreaks, PassedOver, HasPlacement, CannotReach}
-use Rattle.transition.specs.Transition.{longer, overAll}
+use Rattle.transition.specs.Transition.{longer}
 
 -- Two plans that one length reaches are the same.
 same-plan : (o : Option Plan) (p q : Plan) → o ≡ some p → o ≡ some q → p ≡ q

@@ -8,16 +8,15 @@ use mathlib.Core.Path.{_≡_, refl, sym, ap, _∙_, subst}
 use Prim.Native.Nat.{ℕ, _<_}
 use Rattle.change.proofs.Histories.{sent-accepted, sent-refused}
 use Rattle.change.proofs.OneOutcome.{change-unique}
-use Rattle.change.specs.Change.{answer, outcome, areaAfter}
+use Rattle.change.specs.Change.{answer, outcome}
 use Rattle.change.specs.Controller.{Sent, send, historyOf}
 use Rattle.change.specs.declared.Outcome.{Outcome}
 use Rattle.promises.proofs.Kept.{sound-stays, windows, one-owner}
-use Rattle.promises.specs.OfCode.{Meets, Serves, start, accepts, refuses, DemandOne, DemandTwo, DemandThree}
+use Rattle.promises.specs.OfCode.{Serves, start, accepts, refuses, DemandOne, DemandTwo, DemandThree}
 use Rattle.records.specs.Numbers.{ACCEPTED}
 use Rattle.slots.specs.Clocks.{coreSlot}
 use Rattle.slots.specs.Limits.{IDS}
 use Rattle.slots.specs.Slots.{Since, Listed, KeepsBound}
-use Rattle.timetable.specs.declared.Timetable.{Timetable}
 use Rattle.timetable.specs.History.{History, present, inForce, runOf}
 use Rattle.timetable.specs.Sound.{isSound}
 use Rattle.timetable.specs.Timetable.{serves}

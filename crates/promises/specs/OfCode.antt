@@ -1,5 +1,4 @@
 -- Demands 1 to 3, of the code: of whatever meets the contract of `change`, and of a controller that is made of such calls.
-use lib.ListN.{length}
 use mathlib.Core.Bool.{true}
 use mathlib.Core.List.{List, [], _∷_}
 use mathlib.Core.Logic.{_≢_}

@@ -1,8 +1,8 @@
 -- The promises of document 01, as statements about the definitions. Each speaks of the slots and of document 01's rules, never of how something is
 -- computed; proofs/Kept.antt proves each under its name. Two wrong programs that a promise shuts out stand under it.
 use lib.ListN.{getD, length}
-use mathlib.Core.Bool.{true, false}
-use mathlib.Core.List.{List, []}
+use mathlib.Core.Bool.{true}
+use mathlib.Core.List.{List}
 use mathlib.Core.Logic.{_↔_, _≢_, _⊎_}
 use mathlib.Core.Option.{Option, none, some}
 use mathlib.Core.Path.{_≡_}
@@ -27,13 +27,13 @@ use Rattle.records.specs.Written.{requestRecord}
 use Rattle.slots.specs.Below.{count}
 use Rattle.slots.specs.Clocks.{coreSlot, sliceCount}
 use Rattle.slots.specs.Limits.{IDS, WHOLE, AREA, LAST-SLOT}
-use Rattle.slots.specs.Slots.{Run, isOwner, entitlement, supply, shortfall, Since, Listed, KeepsBound}
+use Rattle.slots.specs.Slots.{entitlement, supply, shortfall, Since, Listed, KeepsBound}
 use Rattle.timetable.specs.declared.Entry.{Entry}
 use Rattle.timetable.specs.declared.Timetable.{Timetable}
 use Rattle.timetable.specs.Owner.{ownerNumber}
-use Rattle.timetable.specs.History.{History, present, inForce, runOf}
+use Rattle.timetable.specs.History.{present, inForce, runOf}
 use Rattle.timetable.specs.Sound.{entriesInRange, isSound}
-use Rattle.timetable.specs.Timetable.{emptyTimetable, entryOf, lists, serves, ownerAt, shortfallAt}
+use Rattle.timetable.specs.Timetable.{emptyTimetable, entryOf, lists, serves, shortfallAt}
 use Rattle.transition.specs.Reach.{isSearched, HasPlacement, PassedOver, CannotReach}
 
 -- 1. Sound stays sound; a refusal hands back the timetable as given and touches no byte of the area; an accepted record has at most 231 bytes, and

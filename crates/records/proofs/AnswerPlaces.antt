@@ -1,13 +1,13 @@
 -- Where an answer says what: first the transition's length, from byte 4 on its owners, then an offset field for each listed id, ids rising. Each field
 -- starts where the one before ends, so a reader that knows the lengths finds every field. Assumes nothing.
-use lib.ListN.{drop, getD, length, length-append, length-drop, take}
+use lib.ListN.{drop, getD, length, length-drop, take}
 use lib.Seq.{drop-append-le, drop-at, drop-drop, getD-take, length-take-le}
 use mathlib.Core.Bool.{Bool, true, false, cond}
 use mathlib.Core.List.{List, [], _∷_, _++_, append-assoc, append-nil}
 use mathlib.Core.Path.{_≡_, refl, sym, ap, _∙_, subst}
 use native.Mathlib.Decide.{ℕ-discrete}
 use native.Mathlib.Omega.{arith}
-use Prim.Native.Nat.{ℕ, zero, suc, _+_, _*_, _≤_, _<_}
+use Prim.Native.Nat.{ℕ, suc, _+_, _*_, _≤_, _<_}
 use Rattle.records.proofs.AnswerLaws.{listedCount, offsets-length}
 use Rattle.records.proofs.FieldStands.{after-stands, content-stands, field-stands}
 use Rattle.records.specs.Answer.{answerRecord, field, offsetFields}

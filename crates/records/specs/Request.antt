@@ -1,22 +1,18 @@
 -- Document 01, "Records": reading a request, left to right. Reading knows nothing of the timetable.
 use lib.Dec.{eqb, leb, ltb}
 use lib.ListN.{getD, length, replicate, set}
-use mathlib.Core.Bool.{Bool, true, false, cond, _&&_, _||_}
+use mathlib.Core.Bool.{Bool, true, false, cond, _&&_}
 use mathlib.Core.List.{List}
 use Prim.Native.Nat.{ℕ, zero, suc, _+_, _*_, _^_}
 use Rattle.records.specs.declared.Ask.{Ask}
-use Rattle.records.specs.declared.Cursor.{Cursor}
 use Rattle.records.specs.declared.LimitField.{LimitField}
 use Rattle.records.specs.declared.LimitField.the-variants.{Value as limit-value, Refused as limit-refused}
-use Rattle.records.specs.declared.Listed.{Listed}
 use Rattle.records.specs.declared.ListedField.{ListedField}
 use Rattle.records.specs.declared.ListedField.the-variants.{Value as listed-value, Refused as listed-refused}
 use Rattle.records.specs.declared.Listing.{Listing}
-use Rattle.records.specs.declared.Reading.{Reading}
 use Rattle.records.specs.declared.Reading.the-variants.{Whole, Refused}
 use Rattle.records.specs.declared.ReadRequest.{ReadRequest}
 use Rattle.records.specs.declared.Refusal.{Refusal}
-use Rattle.records.specs.declared.Request.{Request}
 use Rattle.records.specs.declared.SlotField.{SlotField}
 use Rattle.records.specs.declared.SlotField.the-variants.{Value as slot-value, Refused as slot-refused}
 use Rattle.records.specs.Numbers.{BAD-FIELD, OUT-OF-RANGE, NOT-RISING}

@@ -1,12 +1,12 @@
 -- The window law, both ways: the shortfall is the largest excess of entitlement over supply among the windows that end there,
 -- so it stays below 256 R exactly if every such window keeps its bound. Assumes nothing.
 use mathlib.Core.Bool.{Bool, true, false, cond}
-use mathlib.Core.Logic.{_↔_, _≢_, _⊎_, inl, inr}
-use mathlib.Core.Path.{_≡_, refl, sym, ap, _∙_, subst}
+use mathlib.Core.Logic.{_≢_, _⊎_, inl, inr}
+use mathlib.Core.Path.{_≡_, refl, sym, ap, subst}
 use native.Mathlib.Decide.{ℕ-discrete}
 use native.Mathlib.Nat.{add-suc, add-zero}
 use native.Mathlib.Omega.{arith}
-use Prim.Native.Nat.{ℕ, zero, suc, _+_, _-_, _*_, _≤_, _<_}
+use Prim.Native.Nat.{ℕ, zero, suc, _+_, _*_, _≤_, _<_}
 use Rattle.slots.specs.Limits.{WHOLE}
 use Rattle.slots.specs.Shortfall.{overSlot}
 use Rattle.slots.specs.Slots.{Run, isOwner, own, one, entitlement, supply, shortfall, shortfallOver, Since, KeepsBound}

@@ -1,16 +1,15 @@
 -- The cyclic slots of one entry: shortfall and slices in closed form, and the bound kept for ever. The walk over slots is the definition;
 -- these laws let the elapsed time be skipped. Assumes nothing.
-use borrow.Author.Tests.{lt-ltb, eq-eqb, ne-eqb, eqb-true, eqb-false}
-use lib.Dec.{eqb, ltb}
-use mathlib.Core.Bool.{Bool, true, false, cond, _&&_, and-eq-true-iff}
+use borrow.Author.Tests.{lt-ltb, eq-eqb, ne-eqb, eqb-true}
+use mathlib.Core.Bool.{Bool, true, false, _&&_, and-eq-true-iff}
 use mathlib.Core.Logic.{_↔_, _≢_}
-use mathlib.Core.Path.{_≡_, refl, sym, ap, ap₂, _∙_, subst}
+use mathlib.Core.Path.{_≡_, refl, sym, ap, ap₂, _∙_}
 use native.Mathlib.Decide.{ℕ-discrete, decLe}
-use native.Mathlib.Nat.{add-suc, add-zero, div-add-mod', mul-add-mod-self-right, mod-eq-of-lt, mod-lt, mod-self, add-mul-mod-self-right, zero-mod, mul-mod-left, add-mod-left, mul-le-mul-right, le-div-iff-mul-le, zero-div, add-mul-div-right, div-eq-of-lt, div-eq-of-lt-le}
+use native.Mathlib.Nat.{add-suc, add-zero, div-add-mod', mul-add-mod-self-right, mod-eq-of-lt, mod-lt, mod-self, add-mul-mod-self-right, zero-mod, mul-mod-left, add-mod-left, mul-le-mul-right, le-div-iff-mul-le, zero-div, div-eq-of-lt-le}
 use native.Mathlib.Omega.{arith}
 use Prim.Native.Nat.{ℕ, zero, suc, _+_, _-_, _*_, _/_, _%_, _≤_, _<_}
 use Rattle.slots.specs.Limits.{WHOLE}
-use Rattle.slots.specs.Shortfall.{overSlot, weightOf, roomOf}
+use Rattle.slots.specs.Shortfall.{overSlot, roomOf}
 use Rattle.slots.specs.Slots.{one}
 use Rattle.timetable.specs.declared.Entry.{Entry}
 use Rattle.timetable.specs.Timetable.{isListed, weight, room, cyclic, shortfallAfter, slicesAfter}

@@ -1,20 +1,19 @@
 -- Listings along a run: every timetable in force is sound, and an id that is listed, and was newly listed at no slot since a, was listed all along.
 -- By induction on the history. Assumes nothing.
-use borrow.Author.Tests.{le-leb, lt-leb, eq-eqb, ne-eqb}
+use borrow.Author.Tests.{le-leb, lt-leb, eq-eqb}
 use lib.Dec.{eqb, leb}
 use lib.ListN.{length, length-replicate}
 use mathlib.Core.Bool.{Bool, true, false, cond, not, _&&_, _||_}
-use mathlib.Core.List.{List, [], _∷_}
-use mathlib.Core.Logic.{_≢_}
+use mathlib.Core.List.{[], _∷_}
 use mathlib.Core.Path.{_≡_, refl, sym, ap, _∙_, subst}
-use native.Mathlib.Decide.{ℕ-discrete, decLt, decLe}
+use native.Mathlib.Decide.{ℕ-discrete, decLe}
 use native.Mathlib.Nat.{add-suc}
 use native.Mathlib.Omega.{arith}
-use Prim.Native.Nat.{ℕ, zero, suc, _+_, _*_, _≤_, _<_}
+use Prim.Native.Nat.{ℕ, zero, suc, _+_, _≤_, _<_}
 use Rattle.slots.proofs.Below.{true-false}
 use Rattle.slots.specs.Below.{every}
 use Rattle.slots.specs.Limits.{IDS}
-use Rattle.slots.specs.Slots.{Run, Since, Listed}
+use Rattle.slots.specs.Slots.{Since, Listed}
 use Rattle.timetable.proofs.Cycle.{weight-pos}
 use Rattle.timetable.proofs.Ranges.{period-whole}
 use Rattle.timetable.proofs.Run.{Valid, empty-lists, in-force}

@@ -1,13 +1,11 @@
 -- When two entries share a cyclic slot, from "some slot belongs to both". Assumes nothing.
-use mathlib.Core.Bool.{Bool, true, false}
-use mathlib.Core.Logic.{_↔_, _≢_}
-use mathlib.Core.Path.{_≡_, refl, sym, ap, _∙_}
+use mathlib.Core.Bool.{true}
+use mathlib.Core.Logic.{_↔_}
+use mathlib.Core.Path.{_≡_, sym, ap, _∙_}
 use native.Mathlib.Nat.{mod-eq-of-lt, mod-mod-of-dvd}
-use native.Mathlib.Omega.{arith}
-use Prim.Native.Nat.{ℕ, _+_, _*_, _%_, _<_, _∣_}
-use Rattle.slots.specs.Limits.{WHOLE}
+use Prim.Native.Nat.{ℕ, _%_, _<_, _∣_}
 use Rattle.timetable.specs.declared.Entry.{Entry}
-use Rattle.timetable.specs.Timetable.{weight, cyclic}
+use Rattle.timetable.specs.Timetable.{cyclic}
 use Rattle.timetable.proofs.Cycle.{cyclic-own, cyclic-residue}
 
 -- Two classes of numbers, the one period a divisor of the other, meet exactly if the larger one's offset lies in the smaller's class.

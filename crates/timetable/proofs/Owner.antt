@@ -1,20 +1,19 @@
 -- No slot serves two, so the owner of a slot is the one id that it serves. Assumes nothing.
 use borrow.Author.Tests.{lt-ltb, le-ltb, eq-eqb, ne-eqb, eqb-true}
-use lib.Dec.{eqb, ltb}
+use lib.Dec.{eqb}
 use lib.ListN.{getD}
-use mathlib.Core.Bool.{Bool, true, false, cond}
-use mathlib.Core.Logic.{_≢_}
+use mathlib.Core.Bool.{Bool, true, false}
 use mathlib.Core.Option.{Option, none, some}
 use mathlib.Core.Path.{_≡_, refl, sym, ap, _∙_}
 use native.Mathlib.Decide.{ℕ-discrete, decLt}
 use native.Mathlib.Omega.{arith}
 use Prim.Native.Nat.{ℕ, _-_, _≤_, _<_}
-use Rattle.slots.proofs.Below.{first-none, first-some, some-first, true-false, decided}
+use Rattle.slots.proofs.Below.{first-none, first-some, true-false}
 use Rattle.slots.specs.Below.{first}
 use Rattle.slots.specs.Clocks.{coreSlot}
 use Rattle.slots.specs.Limits.{IDS}
 use Rattle.slots.specs.Slots.{isOwner}
-use Rattle.timetable.proofs.Sound.{Sound, Apart}
+use Rattle.timetable.proofs.Sound.{Apart}
 use Rattle.timetable.specs.declared.Timetable.{Timetable}
 use Rattle.timetable.specs.Timetable.{entryOf, cyclic, serves, ownerAt}
 

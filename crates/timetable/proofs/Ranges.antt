@@ -1,15 +1,14 @@
 -- What the range of an entry tells: its period is a power of two that divides 256, its bound is kept. Assumes nothing.
 use borrow.Author.Tests.{lt-ltb, le-leb, eq-eqb, ltb-true, leb-true, eqb-true, not-true, not-false}
-use lib.Dec.{eqb, leb, ltb}
+use lib.Dec.{eqb}
 use lib.Pow.{pow-add, pow-lt, pow-mono, pow-pos}
 use mathlib.Core.Bool.{Bool, true, false, not, _&&_}
-use mathlib.Core.Logic.{_↔_}
-use mathlib.Core.Path.{_≡_, refl, sym, ap, ap₂, _∙_, subst}
+use mathlib.Core.Path.{_≡_, refl, ap₂}
 use native.Mathlib.Decide.{decLe}
 use native.Mathlib.Nat.{add-sub-of-le, dvd-mul-right, lt-of-not-le, mul-div-cancel'}
 use native.Mathlib.Omega.{arith}
-use Prim.Native.Nat.{ℕ, suc, _+_, _-_, _*_, _/_, _^_, _≤_, _<_, _∣_}
-use Rattle.slots.proofs.Below.{and-both, every-at, every-fails, true-false, decided}
+use Prim.Native.Nat.{ℕ, suc, _+_, _-_, _*_, _^_, _≤_, _<_, _∣_}
+use Rattle.slots.proofs.Below.{and-both, every-at, every-fails, true-false}
 use Rattle.slots.specs.Below.{every}
 use Rattle.slots.specs.Limits.{WHOLE, LARGEST-BOUND, LARGEST-K}
 use Rattle.slots.specs.Shortfall.{keeps, weightOf}

@@ -1,20 +1,18 @@
 -- Soundness, from its test to what it says and back, clause by clause. Assumes nothing.
-use borrow.Author.Tests.{lt-ltb, le-ltb, le-leb, eq-eqb, ltb-true, ltb-false, leb-true, eqb-true, not-true}
-use lib.Dec.{eqb, leb, ltb}
+use borrow.Author.Tests.{lt-ltb, le-ltb, le-leb, eq-eqb, ltb-false, leb-true, eqb-true, not-true}
+use lib.Dec.{eqb, ltb}
 use lib.ListN.{getD}
-use mathlib.Core.Bool.{Bool, true, false, cond, not, _&&_, _||_, false≢true}
+use mathlib.Core.Bool.{Bool, true, false, cond, not, _&&_, _||_}
 use mathlib.Core.List.{List}
-use mathlib.Core.Logic.{_↔_, _≢_, _⊎_, inl, inr}
+use mathlib.Core.Logic.{_≢_}
 use mathlib.Core.Path.{_≡_, refl, sym, ap, ap₂, _∙_, subst}
-use native.Mathlib.Decide.{decLe, decLt}
-use native.Mathlib.Nat.{div-add-mod', mod-lt, mod-mod-of-dvd}
+use native.Mathlib.Decide.{decLt}
+use native.Mathlib.Nat.{mod-lt, mod-mod-of-dvd}
 use native.Mathlib.Omega.{arith}
-use Prim.Native.Nat.{ℕ, suc, _+_, _-_, _*_, _/_, _%_, _≤_, _<_, _∣_}
-use Rattle.slots.proofs.Below.{and-both, or-either, every-at, every-all, true-false, decided}
-use Rattle.slots.specs.Below.{every}
+use Prim.Native.Nat.{ℕ, _+_, _%_, _≤_, _<_, _∣_}
+use Rattle.slots.proofs.Below.{and-both, every-at, every-all, true-false}
 use Rattle.slots.specs.Limits.{IDS, LONGEST, WHOLE, LAST-SLOT}
-use Rattle.timetable.proofs.Cycle.{cyclic-own, cyclic-residue}
-use Rattle.timetable.proofs.Ranges.{Period, InRange, period-divides, in-range-from, in-range-is}
+use Rattle.timetable.proofs.Ranges.{InRange, period-divides, in-range-from, in-range-is}
 use Rattle.timetable.specs.declared.Entry.{Entry}
 use Rattle.timetable.specs.declared.Timetable.{Timetable}
 use Rattle.timetable.specs.Sound.{requestInRange, lengthInRange, baseAsStated, ownersListed, entryInRange, entryBlank, entriesInRange, shareNone, noneShared, unusedOwnersZero, isSound}

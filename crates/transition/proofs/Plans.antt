@@ -10,7 +10,7 @@ use mathlib.Core.Option.{Option, none, some}
 use mathlib.Core.Path.{_≡_, refl, sym, ap, _∙_, subst}
 use native.Mathlib.Decide.{ℕ-discrete, decLt}
 use native.Mathlib.Omega.{arith}
-use Prim.Native.Nat.{ℕ, zero, suc, _+_, _-_, _*_, _≤_, _<_}
+use Prim.Native.Nat.{ℕ, suc, _*_, _≤_, _<_}
 use Rattle.placement.specs.Any.{Lists}
 use Rattle.slots.proofs.Below.{true-false}
 use Rattle.slots.specs.Limits.{IDS, LONGEST, WHOLE}
@@ -19,7 +19,7 @@ use Rattle.timetable.proofs.Entries.{length-each, each-at}
 use Rattle.timetable.proofs.Ranges.{InRange}
 use Rattle.timetable.proofs.Sound.{Ranged}
 use Rattle.timetable.specs.declared.Entry.{Entry}
-use Rattle.timetable.specs.Timetable.{noEntry, entryOf, isListed, weight, room, withShortfall}
+use Rattle.timetable.specs.Timetable.{noEntry, entryOf, isListed, weight, withShortfall}
 use Rattle.transition.proofs.UrgentRule.{MostUrgent, Told, told, unmissed, room-bears, own-bears}
 use Rattle.transition.specs.declared.Plan.{Plan}
 use Rattle.transition.specs.Transition.{mostUrgent, isMissed, overAll, longer}

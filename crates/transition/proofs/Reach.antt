@@ -7,12 +7,12 @@ use mathlib.Core.Path.{_≡_, refl, sym, ap, ap₂, _∙_, subst}
 use native.Mathlib.Nat.{add-zero}
 use native.Mathlib.Decide.{ℕ-discrete}
 use native.Mathlib.Omega.{arith}
-use Prim.Native.Nat.{ℕ, zero, suc, _+_, _-_, _≤_, _<_}
+use Prim.Native.Nat.{ℕ, zero, suc, _+_, _≤_, _<_}
 use Rattle.placement.specs.Placement.{Place, placement}
-use Rattle.slots.proofs.Below.{every-all, every-at, true-false, count-first, and-both}
+use Rattle.slots.proofs.Below.{every-all, every-at, true-false, count-first}
 use Rattle.slots.specs.Below.{every, count}
 use Rattle.slots.specs.Limits.{LONGEST}
-use Rattle.transition.proofs.Plans.{Fit, Step, Longer, longer-told, step-fit}
+use Rattle.transition.proofs.Plans.{Fit, Longer, longer-told, step-fit}
 use Rattle.transition.proofs.Search.{PassedFirst, Ended, found, missed, exhausted, search-ends}
 use Rattle.transition.specs.declared.Plan.{Plan}
 use Rattle.transition.specs.declared.Searched.{Searched}

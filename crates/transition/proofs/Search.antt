@@ -7,7 +7,6 @@ use native.Mathlib.Nat.{add-zero}
 use native.Mathlib.Omega.{arith}
 use Prim.Native.Nat.{ℕ, zero, suc, _+_, _≤_, _<_}
 use Rattle.placement.specs.Placement.{Place, placement}
-use Rattle.transition.specs.declared.Ending.{Ending}
 use Rattle.transition.specs.declared.Ending.the-variants.{Found, Missed, Exhausted}
 use Rattle.transition.specs.declared.Plan.{Plan}
 use Rattle.transition.specs.declared.Searched.{Searched}

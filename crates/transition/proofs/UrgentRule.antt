@@ -1,18 +1,17 @@
 -- One transition slot: whom the urgent rule serves, why that keeps every bound, and why a missed slot breaks one whoever gets it. Assumes nothing.
-use borrow.Author.Tests.{lt-ltb, le-ltb, eq-eqb, ne-eqb, ltb-true, ltb-false, eqb-true, eqb-false, not-true, not-false}
+use borrow.Author.Tests.{ne-eqb, ltb-true, ltb-false, eqb-false, not-true, not-false}
 use lib.Dec.{eqb, ltb}
 use mathlib.Core.Bool.{Bool, true, false, cond, not, _||_}
 use mathlib.Core.List.{List}
 use mathlib.Core.Logic.{_≢_, _⊎_, inl, inr, ⊎-elim}
 use mathlib.Core.Option.{Option, none, some}
-use mathlib.Core.Path.{_≡_, refl, sym, ap, _∙_, subst}
-use native.Mathlib.Decide.{ℕ-discrete, decLt}
+use mathlib.Core.Path.{_≡_, refl, sym, ap, _∙_}
+use native.Mathlib.Decide.{ℕ-discrete}
 use native.Mathlib.Nat.{le-div-iff-mul-le, div-lt-iff-lt-mul, div-le-self}
 use native.Mathlib.Omega.{arith}
 use Prim.Native.Nat.{ℕ, zero, suc, _+_, _-_, _*_, _/_, _≤_, _<_}
 use Rattle.placement.specs.Any.{Lists}
-use Rattle.slots.proofs.Below.{every-at, every-fails, or-either, true-false, decided}
-use Rattle.slots.specs.Below.{every}
+use Rattle.slots.proofs.Below.{every-at, every-fails, true-false}
 use Rattle.slots.specs.Limits.{IDS, WHOLE}
 use Rattle.slots.specs.Shortfall.{overSlot, roomOf, weightOf}
 use Rattle.slots.specs.Slots.{isOwner}

@@ -1,11 +1,9 @@
 -- Along the urgent rule an entry changes by its shortfall alone, and that is the walk over the transition's owners. Assumes nothing.
 use lib.Dec.{eqb}
-use lib.ListN.{getD, set}
+use lib.ListN.{getD}
 use lib.Seq.{getD-set-same, getD-set-other}
-use mathlib.Core.Bool.{Bool}
 use mathlib.Core.Option.{Option, none, some}
 use mathlib.Core.Path.{_≡_, refl, sym, ap, ap₂, _∙_, subst}
-use native.Mathlib.Decide.{ℕ-discrete}
 use native.Mathlib.Nat.{add-zero, add-suc}
 use native.Mathlib.Numerals.{add-one}
 use native.Mathlib.Omega.{arith}
@@ -19,7 +17,7 @@ use Rattle.transition.proofs.Plans.{Fit, Step, Longer, longer-told, ove
 use Rattle.transition.proofs.Reach.{onward, reach-last, reach-fit}
 use Rattle.transition.specs.declared.Plan.{Plan}
 use Rattle.transition.specs.Reach.{reachFrom, reach}
-use Rattle.transition.specs.Transition.{longer, overAll}
+use Rattle.transition.specs.Transition.{longer}
 
 -- Owners that agree below n give the same walk of n slots.
 pub walk-agree : (a b : List ℕ) (i w s n : ℕ) → ((m : ℕ) → m < n → getD a m 0 ≡ getD b m 0)
