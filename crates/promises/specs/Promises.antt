@@ -14,14 +14,12 @@ use Rattle.change.specs.Refused.{Refuses}
 use Rattle.change.specs.Stages.{refusalBefore}
 use Rattle.placement.specs.Any.{CyclicPlacement}
 use Rattle.placement.specs.Placement.{Place, placement, settle}
-use Rattle.records.proofs.OneForm.{Bytes}
-use Rattle.records.proofs.ReadLaws.{RequestRange, RefusalRange}
-use Rattle.records.proofs.ReadSteps.{RequestRead}
 use Rattle.records.specs.declared.Reading.the-variants.{Whole, Refused}
 use Rattle.records.specs.declared.ReadRequest.{ReadRequest}
 use Rattle.records.specs.declared.Refusal.{Refusal}
 use Rattle.records.specs.declared.Request.{Request}
 use Rattle.records.specs.Numbers.{ACCEPTED, NO-SCHEDULE}
+use Rattle.records.specs.Reads.{Bytes, RequestRange, RefusalRange, RequestRead}
 use Rattle.records.specs.Request.{readRequest}
 use Rattle.records.specs.Written.{requestRecord}
 use Rattle.slots.specs.Below.{count}

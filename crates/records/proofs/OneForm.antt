@@ -1,7 +1,7 @@
 -- A request that is read whole is written in one way: each field read is the field written, and the next follows at once. Assumes nothing.
 use borrow.Author.Tests.{eq-eqb, lt-ltb, ltb-true, ne-eqb}
 use lib.Dec.{eqb, leb, ltb}
-use lib.ListN.{drop, drop-of-length-le, getD, length, length-set, set}
+use lib.ListN.{drop, drop-of-length-le, length, length-set, set}
 use lib.Pow.{pow-lt, pow-pos}
 use lib.Seq.{getD-set-same, getD-set-other}
 use mathlib.Core.Bool.{Bool, true, cond}
@@ -20,16 +20,13 @@ use Rattle.records.specs.declared.Ask.{Ask}
 use Rattle.records.specs.declared.Listing.{Listing}
 use Rattle.records.specs.declared.Reading.the-variants.{Whole}
 use Rattle.records.specs.declared.ReadRequest.{ReadRequest}
+pub use Rattle.records.specs.Reads.{Bytes}
 use Rattle.records.specs.Request.{askOf, contentAt, isAsked, isListing, noAsk, noAsks, numberAt, readRequest, refusedRequest}
 use Rattle.records.specs.Written.{exponentOf, listedBytes, listingBytes, numberBytes, requestRecord}
 use Rattle.slots.proofs.Below.{and-both, some-first}
 use Rattle.slots.specs.Below.{first}
 use Rattle.slots.specs.Limits.{IDS, LARGEST-BOUND, LARGEST-K}
 use Rattle.timetable.specs.Sound.{isBound}
-
--- Every element of a record is a byte.
-abbrev pub Bytes : List ℕ → Type 0
-Bytes s = (i : ℕ) → getD s i 0 < 256
 
 -- The k of a period 2^k is k.
 pub exponent-power : (k : ℕ) → k ≤ LARGEST-K → exponentOf (2 ^ k) ≡ k

@@ -2,7 +2,7 @@
 use lib.ListN.{getD, length, length-set, replicate, set}
 use lib.Seq.{getD-set-same, getD-set-other}
 use mathlib.Core.List.{List}
-use mathlib.Core.Logic.{_⊎_, inl, inr}
+use mathlib.Core.Logic.{inl, inr}
 use mathlib.Core.Path.{_≡_, refl, ap, _∙_}
 use native.Mathlib.Decide.{ℕ-discrete}
 use native.Mathlib.Omega.{arith}
@@ -17,34 +17,11 @@ use Rattle.records.specs.declared.Listing.{Listing}
 use Rattle.records.specs.declared.Reading.the-variants.{Whole, Refused}
 use Rattle.records.specs.declared.ReadRequest.{ReadRequest}
 use Rattle.records.specs.declared.Refusal.{Refusal}
-use Rattle.records.specs.declared.Request.{Request}
 use Rattle.records.specs.declared.SlotField.the-variants.{Value as slot-value, Refused as slot-refused}
-use Rattle.records.specs.Numbers.{BAD-FIELD, NOT-RISING}
+pub use Rattle.records.specs.Reads.{AskRange, AsksRange, RequestRange, RefusalRange}
 use Rattle.records.specs.Request.{askOf, contentAt, noAsk, noAsks, readRequest, refusedRequest}
 use Rattle.slots.specs.declared.CoreSlot.{CoreSlot}
-use Rattle.slots.specs.Limits.{IDS, LAST-SLOT, LONGEST, LARGEST-BOUND}
-use Rattle.timetable.proofs.Ranges.{Period}
-
--- An id is not listed, or its period is 2^k and its bound at most 8, which is 0 where its field was short.
-abbrev pub AskRange : Ask → Type 0
-AskRange a = ((a .period ≡ 0) × (a .bound ≡ 0)) ⊎ (Period (a .period) × (a .bound ≤ LARGEST-BOUND))
-
--- One ask in range for each id.
-pub record AsksRange (asks : List Ask) : Type 0 where
-  pub count : length asks ≡ IDS
-  pub each : (i : ℕ) → i < IDS → AskRange (askOf asks i)
-
--- A request in range.
-pub record RequestRange (q : Request) : Type 0 where
-  pub slot : q .slot .0 ≤ LAST-SLOT
-  pub limit : q .limit ≤ LONGEST
-  pub asks : AsksRange (q .asks)
-
--- A refusal of reading: its number is 3, 4 or 5, and its place in the record or at its end.
-pub record RefusalRange (s : List ℕ) (r : Refusal) : Type 0 where
-  pub low : BAD-FIELD ≤ r .number
-  pub high : r .number ≤ NOT-RISING
-  pub inside : r .place ≤ length s
+use Rattle.slots.specs.Limits.{IDS, LAST-SLOT, LONGEST}
 
 -- Where nothing is asked, every id is not listed.
 pub no-ask : (i : ℕ) → askOf noAsks i ≡ noAsk

@@ -6,7 +6,7 @@ use mathlib.Core.Bool.{Bool, true, false}
 use mathlib.Core.List.{List}
 use mathlib.Core.Path.{_≡_, refl}
 use native.Mathlib.Omega.{arith}
-use Prim.Native.Nat.{ℕ, zero, suc, _+_, _^_, _≤_, _<_}
+use Prim.Native.Nat.{ℕ, zero, suc, _+_, _≤_, _<_}
 use Rattle.records.proofs.FieldLaws.{SlotRead, LimitRead, ListedForm, ListedRead, slot-read, slot-is, limit-read, limit-is, listed-read, listed-is}
 use Rattle.records.specs.declared.Ask.{Ask}
 use Rattle.records.specs.declared.LimitField.{LimitField}
@@ -17,24 +17,14 @@ use Rattle.records.specs.declared.Listing.{Listing}
 use Rattle.records.specs.declared.Reading.{Reading}
 use Rattle.records.specs.declared.Reading.the-variants.{Whole, Refused}
 use Rattle.records.specs.declared.ReadRequest.{ReadRequest}
-use Rattle.records.specs.declared.Refusal.{Refusal}
 use Rattle.records.specs.declared.SlotField.{SlotField}
 use Rattle.records.specs.declared.SlotField.the-variants.{Value as slot-value, Refused as slot-refused}
+pub use Rattle.records.specs.Reads.{ListingRead, end, more, stop, RequestRead, no-slot, no-limit, no-listing, whole}
 use Rattle.records.specs.Request.{contentAt, isField, isListing, lengthAt, limitField, listedField, noAsks, readListing, readRequest, refusedRequest, slotField, withListing}
 use Rattle.slots.proofs.Below.{and-both}
 use Rattle.slots.specs.declared.CoreSlot.{CoreSlot}
 use Rattle.slots.specs.Limits.{IDS, LARGEST-BOUND, LARGEST-K}
 use Rattle.timetable.specs.Sound.{isBound}
-
--- How a listing is read from a place: nothing is ahead, or a field and the rest, or a field that is refused.
-pub data ListingRead (s : List ℕ) : ℕ → ℕ → List Ask → Listing → Type 0 where
-  end : {at floor : ℕ} {asks : List Ask} → length s ≤ at → ListingRead s at floor asks (record { reading = Whole; asks = asks })
-  more : {at floor next bound : ℕ} {range : Bool} {asks : List Ask} {x : Listing} → at < length s → ListedForm s at next bound range
-      → range ≡ true → floor ≤ contentAt s at 0
-      → ListingRead s next (suc (contentAt s at 0)) (set asks (contentAt s at 0) (record { period = 2 ^ contentAt s at 1; bound = bound })) x
-      → ListingRead s at floor asks x
-  stop : {at floor : ℕ} {asks : List Ask} {r : Refusal} → at < length s → ListedRead s at floor (listed-refused r)
-      → ListingRead s at floor asks (record { reading = Refused r; asks = asks })
 
 -- A tag 3 field in range, and where it ends.
 pub record ListedRange (s : List ℕ) (at next bound : ℕ) : Type 0 where
@@ -104,18 +94,6 @@ listing-read s (suc most) at floor asks h =
     go false e f (ListedRead.low p q k) ih = stop (leb-false _ _ e) (ListedRead.low p q k)
     go false e f (ListedRead.value p q k) ih =
         more (leb-false _ _ e) p q k (ih _ _ _ (omega (arith, listed-range s at p q .ahead)))
-
--- How a request is read: the field of the slot, of T, then the listing; the first that is refused ends it.
-pub data RequestRead (s : List ℕ) : ReadRequest → Type 0 where
-  no-slot : {r : Refusal} → SlotRead s 0 (slot-refused r) → RequestRead s (refusedRequest r)
-  no-limit : {slot : CoreSlot} {r : Refusal} → SlotRead s 0 (slot-value slot (record { at = 11 })) → LimitRead s 11 (limit-refused r)
-      → RequestRead s (refusedRequest r)
-  no-listing : {slot : CoreSlot} {limit : ℕ} {asks : List Ask} {r : Refusal} → SlotRead s 0 (slot-value slot (record { at = 11 }))
-      → LimitRead s 11 (limit-value limit (record { at = 15 }))
-      → ListingRead s 15 0 noAsks (record { reading = Refused r; asks = asks }) → RequestRead s (refusedRequest r)
-  whole : {slot : CoreSlot} {limit : ℕ} {asks : List Ask} → SlotRead s 0 (slot-value slot (record { at = 11 }))
-      → LimitRead s 11 (limit-value limit (record { at = 15 })) → ListingRead s 15 0 noAsks (record { reading = Whole; asks = asks })
-      → RequestRead s (record { reading = Whole; request = record { slot = slot; limit = limit; asks = asks } })
 
 -- A request is read so.
 pub request-read : (s : List ℕ) → RequestRead s (readRequest s)

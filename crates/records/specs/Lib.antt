@@ -2,3 +2,4 @@ pub mod Numbers
 pub mod Request
 pub mod Answer
 pub mod Written
+pub mod Reads

@@ -14,13 +14,8 @@ use Rattle.slots.specs.Limits.{WHOLE, LARGEST-BOUND, LARGEST-K}
 use Rattle.slots.specs.Shortfall.{keeps, weightOf}
 use Rattle.timetable.specs.declared.Entry.{Entry}
 use Rattle.timetable.specs.Sound.{isPeriod, isBound, entryInRange}
+pub use Rattle.timetable.specs.Sound.{Period}
 use Rattle.timetable.specs.Timetable.{weight}
-
--- A period is 2^k with k from 0 to 8.
-pub record Period (p : ℕ) : Type 0 where
-  pub k : ℕ
-  pub small : k ≤ LARGEST-K
-  pub power : p ≡ 2 ^ k
 
 pub period-from : (p : ℕ) → isPeriod p ≡ true → Period p
 unfolding isPeriod

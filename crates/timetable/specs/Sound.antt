@@ -3,7 +3,8 @@ use lib.Dec.{eqb, leb, ltb}
 use lib.ListN.{getD}
 use mathlib.Core.Bool.{Bool, cond, not, _&&_, _||_}
 use mathlib.Core.List.{List}
-use Prim.Native.Nat.{ℕ, suc, _+_, _*_, _^_}
+use mathlib.Core.Path.{_≡_}
+use Prim.Native.Nat.{ℕ, suc, _+_, _*_, _^_, _≤_}
 use Rattle.slots.specs.Below.{every}
 use Rattle.slots.specs.Limits.{IDS, LONGEST, WHOLE, LARGEST-BOUND, LARGEST-K, LAST-SLOT}
 use Rattle.slots.specs.Shortfall.{keeps}
@@ -30,6 +31,12 @@ ownersListed t = every (t .length) (λ n. isListed (entryOf (t .entries) (getD (
 -- A period is 2^k, k from 0 to 8.
 unfoldable pub isPeriod : ℕ → Bool
 isPeriod p = not (every (suc LARGEST-K) (λ k. not (eqb p (2 ^ k))))
+
+-- The same as a statement: the k of a period.
+pub record Period (p : ℕ) : Type 0 where
+  pub k : ℕ
+  pub small : k ≤ LARGEST-K
+  pub power : p ≡ 2 ^ k
 
 -- A bound R is from 1 to 8.
 unfoldable pub isBound : ℕ → Bool
