@@ -5,15 +5,13 @@ use frames::Head;
 use frames::LINE_ROOM;
 use libc::STDIN_FILENO;
 use libc::STDOUT_FILENO;
+use records::Refusal;
 use timetable::Timetable;
 ghost use lib.ListN.{drop, length, take};
 ghost use mathlib.Core.Path.{_≡_};
 ghost use Prim.Native.Nat.{_+_, _≤_};
 ghost use Rattle.changer.specs.Places.{Answered, Inside, Stands, lengthOf, lineAt, unread};
 ghost use Rattle.frames.specs.Coded.{LINE-ROOM};
-
-// The number of an accepted request.
-const ACCEPTED: u8 = 0;
 
 // The timetable in force; the input read and not yet answered, from `from` up to `to`; the output that waits, up to `put`; the next request's ordinal; and whether to go on.
 struct Stream {
@@ -136,7 +134,7 @@ fn answered(s: Stream, input: &[u8], size: usize, out: &mut [u8]) -> Stream
 fn length_of(o: Outcome) -> u8
     ensures { λ r. ⌜ r ≡ lengthOf o ⌝ }
 {
-    if o.number == ACCEPTED {
+    if o.number == Refusal::ACCEPTED {
         o.timetable.length
     } else {
         0
