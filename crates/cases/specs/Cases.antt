@@ -75,13 +75,15 @@ entry period offset bound s = record { period = period; offset = offset; bound =
 unfoldable pub pair : List ℕ
 pair = lists 0 2 1 ++ lists 1 2 1
 
--- Case A's request, B's with a slot and a T, and E's listing with a slot and a T.
+-- Case A's request.
 unfoldable pub requestA : List ℕ
 requestA = head 0 0 ++ pair
 
+-- B's listing, with a slot and a T.
 unfoldable pub requestB : ℕ → ℕ → List ℕ
 requestB slot limit = head slot limit ++ pair ++ lists 2 1 2
 
+-- E's listing, with a slot and a T: D's too.
 unfoldable pub requestE : ℕ → ℕ → List ℕ
 requestE slot limit = head slot limit ++ pair ++ lists 2 1 1
 
@@ -103,13 +105,15 @@ afterA = table 0 0 0 (entry 4 3 1 0 ∷ entry 4 2 1 0 ∷ []) 30
 unfoldable pub afterB : Timetable
 afterB = table 6 1 1 (entry 4 0 1 192 ∷ entry 4 2 1 0 ∷ entry 2 1 2 128 ∷ []) 29
 
--- An acceptance and a refusal.
+-- An acceptance: its tries, timetable and record.
 unfoldable pub accepted : ℕ → Timetable → List ℕ → Given
 accepted tries t bytes = answered (record { number = 0; place = 0; tries = tries; timetable = t; bytes = bytes })
 
+-- A refusal: its number, place and tries, and the timetable as given.
 unfoldable pub refused : ℕ → ℕ → ℕ → Timetable → Given
 refused number place tries t = answered (record { number = number; place = place; tries = tries; timetable = t; bytes = [] })
 
+-- What is asked, with what document 01 says.
 abbrev pub case : Asked → Given → Case
 case asked says = record { asked = asked; says = says }
 
@@ -140,6 +144,7 @@ Hold (c ∷ cs) = (given (c .asked) ≡ c .says) × Hold cs
 
 -- ---- the table
 
+-- Cases A to J, and the program's lines for A and B.
 unfoldable pub cases : List Case
 cases =
     -- A: offsets 3 and 2

@@ -1,6 +1,7 @@
 -- Document 01, "What each number says": the numbers by name.
 use Prim.Native.Nat.{ℕ}
 
+-- accepted
 abbrev pub ACCEPTED : ℕ
 ACCEPTED = 0
 
