@@ -11,20 +11,25 @@ use Rattle.slots.specs.declared.CoreSlot.{CoreSlot}
 use Rattle.timetable.specs.declared.Timetable.{Timetable}
 use Rattle.timetable.specs.Timetable.{emptyTimetable}
 
+-- A contract that says what is returned, by one definition, leaves one result. (Every public function of the crates below has such a contract, or one that
+-- says so of its result and of the slice lent to it.)
+pub one-outcome : {A : Type 0} (said x y : A) → x ≡ said → y ≡ said → x ≡ y
+one-outcome said x y p q = p ∙ sym q
+
 -- `change`: what it returns, and the answer area afterwards.
 pub change-unique : (t : Timetable) (s area : List ℕ) (r r′ : Outcome) (out out′ : List ℕ)
     → (r ≡ outcome t s area) × (out ≡ areaAfter t s area) → (r′ ≡ outcome t s area) × (out′ ≡ areaAfter t s area) → (r ≡ r′) × (out ≡ out′)
-change-unique t s area r r′ out out′ p q = (p .0 ∙ sym (q .0), p .1 ∙ sym (q .1))
+change-unique t s area r r′ out out′ p q = (one-outcome _ r r′ (p .0) (q .0), one-outcome _ out out′ (p .1) (q .1))
 
 -- `owner_query`.
 pub owner-unique : (t : Timetable) (slot : CoreSlot) (r r′ : OwnerAnswer) → r ≡ ownerQuery t slot → r′ ≡ ownerQuery t slot → r ≡ r′
-owner-unique t slot r r′ p q = p ∙ sym q
+owner-unique t slot r r′ p q = one-outcome _ r r′ p q
 
 -- `standing_query`.
 pub standing-unique : (t : Timetable) (id : ℕ) (slot : CoreSlot) (r r′ : StandingAnswer)
     → r ≡ standingQuery t id slot → r′ ≡ standingQuery t id slot → r ≡ r′
-standing-unique t id slot r r′ p q = p ∙ sym q
+standing-unique t id slot r r′ p q = one-outcome _ r r′ p q
 
 -- `Timetable::empty`.
 pub empty-unique : (r r′ : Timetable) → r ≡ emptyTimetable → r′ ≡ emptyTimetable → r ≡ r′
-empty-unique r r′ p q = p ∙ sym q
+empty-unique r r′ p q = one-outcome _ r r′ p q
