@@ -4,6 +4,7 @@ pub mod Accept
 pub mod Answers
 pub mod Histories
 pub mod StageSteps
+pub mod FirstStages
 pub mod EndingSteps
 pub mod Passing
 pub mod QueryLaws

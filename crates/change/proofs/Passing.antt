@@ -1,10 +1,10 @@
 -- What a request that passes the stages hands to the search, and what the search hands back. Assumes nothing.
-use mathlib.Core.Bool.{true}
 use mathlib.Core.List.{List}
 use mathlib.Core.Option.{Option, none, some}
-use mathlib.Core.Path.{_≡_, refl, sym, ap, _∙_, subst}
+use mathlib.Core.Path.{_≡_, sym, ap, _∙_, subst}
 use native.Mathlib.Omega.{arith}
 use Prim.Native.Nat.{ℕ, _≤_}
+use Rattle.change.proofs.FirstStages.{told, told-is}
 use Rattle.change.proofs.Stages.{stages}
 use Rattle.change.proofs.Start.{start-fit}
 use Rattle.change.specs.Change.{Answer, startPlan, searchOf, answerOf, refuse, answerTo, answer}
@@ -21,7 +21,6 @@ use Rattle.records.specs.Request.{readRequest}
 use Rattle.slots.specs.Limits.{AREA}
 use Rattle.timetable.proofs.Sound.{ranged-is}
 use Rattle.timetable.specs.declared.Timetable.{Timetable}
-use Rattle.timetable.specs.Sound.{isSound}
 use Rattle.transition.proofs.Search.{Ended, found, missed, exhausted, search-ends}
 use Rattle.transition.specs.Coded.{Ready}
 use Rattle.transition.specs.declared.Ending.{Ending}
@@ -29,16 +28,6 @@ use Rattle.transition.specs.declared.Ending.the-variants.{Found, Missed, Exhaus
 use Rattle.transition.specs.declared.Plan.{Plan}
 use Rattle.transition.specs.declared.Searched.{Searched}
 use Rattle.transition.specs.Transition.{searchFrom}
-
--- The refusal of a reading, or none.
-told : Reading → Option Refusal
-told Whole = none
-told (Refused r) = some r
-
-told-is : (o : Option Refusal) → told (readingOf o) ≡ o
-unfolding told readingOf
-told-is none = refl
-told-is (some r) = refl
 
 -- The length that an ending found.
 lengthOf : Ending → ℕ
@@ -58,10 +47,8 @@ found-limit limit plan = at (searchFrom limit 0 plan) (search-ends limit 0 plan)
 
 -- What passing the stages says.
 pub record Passing (t : Timetable) (r : Request) (area : ℕ) : Type 0 where
-  pub sound : isSound t ≡ true
   pub room : AREA ≤ area
   pub range : RequestRange r
-  pub later : t .base .0 ≤ r .slot .0
   pub ready : Ready (startPlan t r)
 
 module _ (t : Timetable) (s : List ℕ) (area : ℕ) (read : ReadRequest) (q : read ≡ readRequest s) where
@@ -96,10 +83,8 @@ module _ (t : Timetable) (s : List ℕ) (area : ℕ) (read : ReadRequest) (q : r
             let range = subst (λ (y : ReadRequest). y .reading ≡ Whole → RequestRange (y .request)) (sym q) (read-in-range s) c in
             let fit = start-fit t (read .request) range g in
             record {
-              sound = a;
               room = b;
               range = range;
-              later = d;
               ready = record { ranged = ranged-is (startPlan t (read .request) .entries) (fit .ranged); unplaced = fit .unplaced };
             }
 

@@ -11,19 +11,16 @@ use native.Mathlib.Decide.{decLe}
 use native.Mathlib.Numerals.{add-one}
 use native.Mathlib.Omega.{arith}
 use Prim.Native.Nat.{ℕ, suc, _+_, _-_, _*_, _≤_, _<_}
-use Rattle.change.proofs.Stages.{stages-only}
-use Rattle.change.specs.Coded.{lowestOf, readingOf, entering, isBehind}
+use Rattle.change.specs.Coded.{lowestOf, readingOf, fieldsFirst, refusalFirst, entering, isBehind}
 use Rattle.change.specs.declared.Lowest.{Lowest}
 use Rattle.change.specs.declared.Lowest.the-variants.{Id, Nobody}
-use Rattle.change.specs.Refused.{not-sound, small-area, bad-field}
 use Rattle.change.specs.Stages.{askedBound, startEntry, startEntries, weightSum, overfull, behind}
-use Rattle.change.specs.Stages.{stageBehind, stageOverfull, stageEarly, stageFields, refusalBefore}
+use Rattle.change.specs.Stages.{stageBehind, stageOverfull}
 use Rattle.records.specs.declared.Ask.{Ask}
 use Rattle.records.specs.declared.Reading.{Reading}
 use Rattle.records.specs.declared.Reading.the-variants.{Whole, Refused}
 use Rattle.records.specs.declared.ReadRequest.{ReadRequest}
 use Rattle.records.specs.declared.Refusal.{Refusal}
-use Rattle.records.specs.declared.Request.{Request}
 use Rattle.records.specs.Numbers.{NOT-SOUND, SMALL-AREA, TOO-EARLY, OVERFULL, BEHIND}
 use Rattle.records.specs.Request.{askOf, refusal}
 use Rattle.slots.specs.Below.{first}
@@ -147,7 +144,7 @@ pub over-end : (es : List Entry) (n : ℕ) → IDS ≤ n → n ≤ IDS → first
 unfolding lowestOf overfull
 over-end es n a b e = sym (ap lowestOf (first-end (overTest es) n IDS a b e))
 
--- ---- stages 6 to 8
+-- ---- stages 7 and 8
 
 -- Who a stage names is refused with its number; where it names nobody the next stage is asked.
 named : ℕ → Option Refusal → Lowest → Option Refusal
@@ -172,51 +169,54 @@ behind-named es = at (behind es)
     at none = refl
     at (some i) = refl
 
-module _ (t : Timetable) (r : Request) where
-  pub early-too : r .slot .0 < t .base .0 → readingOf (stageEarly t r) ≡ Refused (refusal TOO-EARLY 0)
-  unfolding readingOf stageEarly
-  early-too l = rw (lt-ltb (r .slot .0) (t .base .0) l)
+module _ (es : List Entry) where
+  pub listed-overfull : (i : ℕ) → lowestOf (overfull es) ≡ Id i → readingOf (stageOverfull es) ≡ Refused (refusal OVERFULL i)
+  unfolding readingOf named
+  listed-overfull i h = ap readingOf (overfull-named es ∙ ap (named OVERFULL (stageBehind es)) h)
 
-  module _ (es : List Entry) (l : t .base .0 ≤ r .slot .0) (k : es ≡ startEntries t (r .slot) (r .asks)) where
-    later : stageEarly t r ≡ named OVERFULL (stageBehind es) (lowestOf (overfull es))
-    unfolding stageEarly
-    later = rw (le-ltb (r .slot .0) (t .base .0) l) (ap stageOverfull (sym k) ∙ overfull-named es)
+  module _ (h : lowestOf (overfull es) ≡ Nobody) where
+    last : (n : Lowest) → lowestOf (behind es) ≡ n → readingOf (stageOverfull es) ≡ readingOf (named BEHIND none n)
+    unfolding named
+    last n b = ap readingOf (overfull-named es ∙ ap (named OVERFULL (stageBehind es)) h ∙ behind-named es ∙ ap (named BEHIND none) b)
 
-    pub early-overfull : (i : ℕ) → lowestOf (overfull es) ≡ Id i → readingOf (stageEarly t r) ≡ Refused (refusal OVERFULL i)
+    pub listed-behind : (i : ℕ) → lowestOf (behind es) ≡ Id i → readingOf (stageOverfull es) ≡ Refused (refusal BEHIND i)
     unfolding readingOf named
-    early-overfull i h = ap readingOf (later ∙ ap (named OVERFULL (stageBehind es)) h)
+    listed-behind i b = last (Id i) b
 
-    module _ (h : lowestOf (overfull es) ≡ Nobody) where
-      last : (n : Lowest) → lowestOf (behind es) ≡ n → readingOf (stageEarly t r) ≡ readingOf (named BEHIND none n)
-      unfolding named
-      last n b = ap readingOf (later ∙ ap (named OVERFULL (stageBehind es)) h ∙ behind-named es ∙ ap (named BEHIND none) b)
+    pub listed-passes : lowestOf (behind es) ≡ Nobody → readingOf (stageOverfull es) ≡ Whole
+    unfolding readingOf named
+    listed-passes b = last Nobody b
 
-      pub early-behind : (i : ℕ) → lowestOf (behind es) ≡ Id i → readingOf (stageEarly t r) ≡ Refused (refusal BEHIND i)
-      unfolding readingOf named
-      early-behind i b = last (Id i) b
-
-      pub early-passes : lowestOf (behind es) ≡ Nobody → readingOf (stageEarly t r) ≡ Whole
-      unfolding readingOf named
-      early-passes b = last Nobody b
-
--- ---- all stages
+-- ---- the stages before them
 
 module _ (t : Timetable) (read : ReadRequest) (area : ℕ) where
-  pub before-unsound : isSound t ≡ false → readingOf (refusalBefore t read area) ≡ Refused (refusal NOT-SOUND 0)
-  unfolding readingOf
-  before-unsound s = ap readingOf (stages-only t read area _ (not-sound s))
+  -- The refusal of the fields and stage 6, were this the reading.
+  reading-first : Reading → Option Refusal
+  reading-first x = elim x [ Whole ↦ cond (ltb (read .request .slot .0) (t .base .0)) (some (refusal TOO-EARLY 0)) none | Refused r ↦ some r ]
 
-  pub before-small : isSound t ≡ true → area < AREA → readingOf (refusalBefore t read area) ≡ Refused (refusal SMALL-AREA 0)
-  unfolding readingOf
-  before-small s a = ap readingOf (stages-only t read area _ (small-area s a))
+  pub first-unsound : isSound t ≡ false → readingOf (refusalFirst t read area) ≡ Refused (refusal NOT-SOUND 0)
+  unfolding readingOf refusalFirst
+  first-unsound s = rw s
 
-  pub before-field : isSound t ≡ true → AREA ≤ area → (r : Refusal) → read .reading ≡ Refused r → readingOf (refusalBefore t read area) ≡ Refused r
-  unfolding readingOf
-  before-field s a r e = ap readingOf (stages-only t read area _ (bad-field s a r e))
+  module _ (s : isSound t ≡ true) where
+    pub first-small : area < AREA → readingOf (refusalFirst t read area) ≡ Refused (refusal SMALL-AREA 0)
+    unfolding readingOf refusalFirst
+    first-small a = rw (s, lt-ltb area AREA a)
 
-  pub before-early : isSound t ≡ true → AREA ≤ area → read .reading ≡ Whole
-      → readingOf (refusalBefore t read area) ≡ readingOf (stageEarly t (read .request))
-  unfolding refusalBefore stageFields
-  before-early s a e =
-      rw (s, le-ltb area AREA a)
-      (ap (λ (x : Reading). readingOf (elim x as (λ _. Option Refusal) [ Whole ↦ stageEarly t (read .request) | Refused r ↦ some r ])) e)
+    module _ (a : AREA ≤ area) where
+      read-first : (x : Reading) → read .reading ≡ x → refusalFirst t read area ≡ reading-first x
+      unfolding refusalFirst fieldsFirst reading-first
+      read-first x e = rw (s, le-ltb area AREA a) (ap reading-first e)
+
+      pub first-field : (r : Refusal) → read .reading ≡ Refused r → readingOf (refusalFirst t read area) ≡ Refused r
+      unfolding readingOf reading-first
+      first-field r e = ap readingOf (read-first (Refused r) e)
+
+      module _ (w : read .reading ≡ Whole) where
+        pub first-early : read .request .slot .0 < t .base .0 → readingOf (refusalFirst t read area) ≡ Refused (refusal TOO-EARLY 0)
+        unfolding readingOf reading-first
+        first-early l = ap readingOf (read-first Whole w) ∙ rw (lt-ltb (read .request .slot .0) (t .base .0) l)
+
+        pub first-passes : t .base .0 ≤ read .request .slot .0 → readingOf (refusalFirst t read area) ≡ Whole
+        unfolding readingOf reading-first
+        first-passes l = ap readingOf (read-first Whole w) ∙ rw (le-ltb (read .request .slot .0) (t .base .0) l)

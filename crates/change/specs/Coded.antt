@@ -1,4 +1,5 @@
 -- The code's answers of the change, in the definitions' words.
+use lib.Dec.{ltb}
 use mathlib.Core.Bool.{Bool, cond, not, _&&_}
 use mathlib.Core.Option.{Option, none, some}
 use mathlib.Core.Path.{_≡_}
@@ -11,16 +12,19 @@ use Rattle.records.specs.Answer.{answerRecord}
 use Rattle.records.specs.declared.Ask.{Ask}
 use Rattle.records.specs.declared.Reading.{Reading}
 use Rattle.records.specs.declared.Reading.the-variants.{Whole, Refused}
+use Rattle.records.specs.declared.ReadRequest.{ReadRequest}
 use Rattle.records.specs.declared.Refusal.{Refusal}
 use Rattle.records.specs.declared.Request.{Request}
-use Rattle.records.specs.Request.{isAsked}
-use Rattle.records.specs.Numbers.{ACCEPTED}
-use Rattle.slots.specs.Limits.{LAST-SLOT, LONGEST}
+use Rattle.records.specs.Request.{isAsked, refusal}
+use Rattle.records.specs.Numbers.{ACCEPTED, NOT-SOUND, SMALL-AREA, TOO-EARLY}
+use Rattle.slots.specs.Limits.{LAST-SLOT, LONGEST, AREA}
 use Rattle.slots.specs.Shortfall.{keeps}
 use Rattle.transition.specs.declared.Ending.the-variants.{Found}
 use Rattle.transition.specs.declared.Plan.{Plan}
 use Rattle.transition.specs.declared.Searched.{Searched}
 use Rattle.timetable.specs.declared.Entry.{Entry}
+use Rattle.timetable.specs.declared.Timetable.{Timetable}
+use Rattle.timetable.specs.Sound.{isSound}
 use Rattle.timetable.specs.Timetable.{noEntry, isListed, shortfallAfter}
 
 -- The lowest id, or nobody.
@@ -32,6 +36,16 @@ lowestOf (some i) = Id i
 unfoldable pub readingOf : Option Refusal → Reading
 readingOf none = Whole
 readingOf (some r) = Refused r
+
+-- The fields and stage 6: a refusal, or none.
+unfoldable pub fieldsFirst : Timetable → ReadRequest → Option Refusal
+fieldsFirst t read =
+    elim (read .reading) [ Whole ↦ cond (ltb (read .request .slot .0) (t .base .0)) (some (refusal TOO-EARLY 0)) none | Refused r ↦ some r ]
+
+-- The refusal of a request, as it was read, before stage 7, or none: an unsound timetable, a small area, then the fields, then 6.
+unfoldable pub refusalFirst : Timetable → ReadRequest → ℕ → Option Refusal
+refusalFirst t read area =
+    cond (not (isSound t)) (some (refusal NOT-SOUND 0)) (cond (ltb area AREA) (some (refusal SMALL-AREA 0)) (fieldsFirst t read))
 
 -- The entry with which an id enters a change, from its entry before and the slots elapsed since the base.
 unfoldable pub entering : Entry → ℕ → Ask → Entry

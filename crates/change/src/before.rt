@@ -3,8 +3,8 @@ ghost use mathlib.Core.Bool.{true};
 ghost use mathlib.Core.Path.{_≡_};
 ghost use Prim.Native.Nat.{_≤_};
 ghost use Rattle.change.specs.Change.{startPlan};
-ghost use Rattle.change.specs.Coded.{lowestOf, readingOf, entering, isBehind};
-ghost use Rattle.change.specs.Stages.{askedBound, startEntries, overfull, behind, stageEarly, refusalBefore};
+ghost use Rattle.change.specs.Coded.{lowestOf, readingOf, refusalFirst, entering, isBehind};
+ghost use Rattle.change.specs.Stages.{askedBound, startEntries, overfull, behind, stageOverfull};
 ghost use Rattle.timetable.specs.Sound.{entryInRange, isSound};
 ghost use Rattle.timetable.specs.Timetable.{isListed};
 use crate::Lowest;
@@ -18,9 +18,9 @@ use timetable::Entry;
 use timetable::Timetable;
 use transition::Plan;
 
-// The refusal of a request, as it was read, before the search; or that it passes.
-pub fn refusal_before(t: Timetable, read: ReadRequest, area: usize) -> Reading
-    ensures { λ r. ⌜ r ≡ readingOf (refusalBefore t read area) ⌝ }
+// The refusal of a request, as it was read, by the stages that need no entries: 1, 2, the fields and 6; or that it passes them.
+pub fn refusal_first(t: Timetable, read: ReadRequest, area: usize) -> Reading
+    ensures { λ r. ⌜ r ≡ readingOf (refusalFirst t read area) ⌝ }
 {
     if !t.is_sound() {
         return Reading::Refused(Refusal::of(Refusal::NOT_SOUND, 0));
@@ -33,25 +33,8 @@ pub fn refusal_before(t: Timetable, read: ReadRequest, area: usize) -> Reading
         return Reading::Refused(r);
     }
     let asked = read.request;
-    early(t, asked)
-}
-
-// Stage 6, and those after it.
-fn early(t: Timetable, asked: Request) -> Reading
-    requires { ⌜ isSound t ≡ true ⌝ }
-    ensures { λ r. ⌜ r ≡ readingOf (stageEarly t asked) ⌝ }
-{
     if asked.slot.0 < t.base.0 {
         return Reading::Refused(Refusal::of(Refusal::TOO_EARLY, 0));
-    }
-    let slot = asked.slot;
-    let asks = asked.asks;
-    let entries = start_entries(t, slot, asks);
-    if let Lowest::Id(id) = overfull(entries) {
-        return Reading::Refused(Refusal::of(Refusal::OVERFULL, id));
-    }
-    if let Lowest::Id(id) = behind(entries) {
-        return Reading::Refused(Refusal::of(Refusal::BEHIND, id));
     }
     Reading::Whole
 }
@@ -69,6 +52,19 @@ pub fn start_plan(t: Timetable, asked: Request) -> Plan
         owners: [0; Timetable::LONGEST],
         entries,
     }
+}
+
+// The refusal by stages 7 and 8, over the entries at the request slot; or that they pass.
+pub fn refusal_listed(entries: [Entry; Timetable::IDS]) -> Reading
+    ensures { λ r. ⌜ r ≡ readingOf (stageOverfull entries) ⌝ }
+{
+    if let Lowest::Id(id) = overfull(entries) {
+        return Reading::Refused(Refusal::of(Refusal::OVERFULL, id));
+    }
+    if let Lowest::Id(id) = behind(entries) {
+        return Reading::Refused(Refusal::of(Refusal::BEHIND, id));
+    }
+    Reading::Whole
 }
 
 // The entries at the request slot.

@@ -44,12 +44,17 @@ pub fn change(t: Timetable, request: &[u8], area: &mut [u8]) -> Outcome
     ensures { λ r. ⌜ (r ≡ outcome t (now (request .entry)) (now (area .entry))) × (now (area .exit) ≡ areaAfter t (now (request .entry)) (now (area .entry))) ⌝ }
 {
     let read = records::read::read_request(request);
-    let verdict = before::refusal_before(t, read, area.len());
-    if let Reading::Refused(r) = verdict {
+    let first = before::refusal_first(t, read, area.len());
+    if let Reading::Refused(r) = first {
         return answering::refuse(t, r);
     }
     let asked = read.request;
     let plan = before::start_plan(t, asked);
+    let entries = plan.entries;
+    let listed = before::refusal_listed(entries);
+    if let Reading::Refused(r) = listed {
+        return answering::refuse(t, r);
+    }
     let found = transition::lengths::search(plan, asked.limit);
     answering::finish(t, asked, found, area)
 }

@@ -2,6 +2,7 @@
 ghost use mathlib.Core.Path.{_≡_};
 ghost use Rattle.records.specs.Request.{refusal};
 use slots::CoreSlot;
+use timetable::Timetable;
 
 pub mod write; // write.rt: writing an answer
 pub mod read; // read.rt: reading a request
@@ -99,14 +100,14 @@ pub enum Reading {
 // The listing of a request: what is asked for each id.
 pub struct Listing {
     pub reading: Reading,
-    pub asks: [Ask; 32],
+    pub asks: [Ask; Timetable::IDS],
 }
 
 // The request slot, T and what is asked for each id.
 pub struct Request {
     pub slot: CoreSlot,
     pub limit: u8,
-    pub asks: [Ask; 32],
+    pub asks: [Ask; Timetable::IDS],
 }
 
 // A request as it was read. Where it was refused it asks for nothing.

@@ -1,18 +1,20 @@
 -- The figures of one entry, as they are worked out: what a period of 0 makes of them, and the closed forms with their ranges. Assumes nothing.
-use borrow.Author.Tests.{lt-ltb}
+use borrow.Author.Tests.{lt-ltb, le-ltb}
+use lib.Bits.{and-mask, bitAnd}
 use lib.Dec.{eqb, ltb}
 use mathlib.Core.Bool.{Bool, true, false, _&&_}
 use mathlib.Core.Path.{_≡_, refl, sym, ap, _∙_}
-use native.Mathlib.Nat.{div-zero, zero-div, div-le-self, min-eq-left, min-eq-right, mod-lt, mul-le-mul-right, mul-lt-mul-of-pos-right}
+use native.Mathlib.Decide.{decLt}
+use native.Mathlib.Nat.{add-mul, mul-assoc, div-zero, div-le-self, div-lt-iff-lt-mul, min-eq-left, min-eq-right, mod-lt, mul-comm, mul-div-mul-right, mul-le-mul, mul-le-mul-right, mul-lt-mul-of-pos-right}
 use native.Mathlib.Omega.{arith}
 use Prim.Native.Nat.{ℕ, _+_, _-_, _*_, _/_, _%_, _≤_, _<_}
 use Rattle.slots.specs.Limits.{WHOLE, LARGEST-BOUND}
-use Rattle.slots.specs.Shortfall.{weightOf, roomOf, lastOffsetOf}
+use Rattle.slots.specs.Shortfall.{keeps, weightOf, roomOf, lastOffsetOf}
 use Rattle.timetable.proofs.Cycle.{shortfall-before, shortfall-after, weight-pos}
-use Rattle.timetable.proofs.Ranges.{InRange, in-range-from, period-whole}
+use Rattle.timetable.proofs.Ranges.{InRange, Period, in-range-from, period-le, period-pos, period-whole}
 use Rattle.timetable.specs.declared.Entry.{Entry}
 use Rattle.timetable.specs.Sound.{entryInRange}
-use Rattle.timetable.specs.Timetable.{weight, cyclic, shortfallAfter}
+use Rattle.timetable.specs.Timetable.{weight, room, cyclic, shortfallAfter}
 
 -- Listed means a period other than 0.
 pub unlisted : (p : ℕ) → p ≡ 0 → ltb 0 p ≡ false
@@ -20,6 +22,9 @@ unlisted p h = rw h
 
 pub listed : (p : ℕ) → (p ≡ 0 → ⊥) → ltb 0 p ≡ true
 listed p h = lt-ltb 0 p (omega arith)
+
+pub not-zero : (p : ℕ) → (p ≡ 0 → ⊥) → 0 < p
+not-zero p h = omega arith
 
 -- The weight.
 pub weight-none : (p : ℕ) → p ≡ 0 → weightOf p ≡ 0
@@ -30,35 +35,27 @@ pub weight-is : (p : ℕ) → weightOf p ≡ WHOLE / p
 unfolding weightOf
 weight-is p = refl
 
+-- A line of the table of weights.
+pub weight-at : (p q w : ℕ) → p ≡ q → w ≡ WHOLE / q → w ≡ weightOf p
+unfolding weightOf
+weight-at p q w e h = h ∙ ap (λ (x : ℕ). WHOLE / x) (sym e)
+
 pub weight-le : (p : ℕ) → weightOf p ≤ WHOLE
 unfolding weightOf
 weight-le p = div-le-self WHOLE p
 
--- An offset below 256 times the weight is small.
-pub product-small : (o p : ℕ) → o < 256 → o * weightOf p ≤ 65280
-product-small o p h =
-    let k : o ≤ 255 = omega arith in
-    omega (arith, mul-le-mul-right (weightOf p) k, weight-le p)
+-- A number times a period is small.
+pub times-period : (x m p : ℕ) → x ≤ m → Period p → x * p ≤ m * WHOLE
+times-period x m p h r = mul-le-mul h (period-le p r)
 
 -- Room and last offset.
 module _ (p b s : ℕ) where
-  pub room-idle : weightOf p ≡ 0 → roomOf p b s ≡ 0
+  -- The weight is 256 / period, so the period over 256 does for it.
+  pub room-is : Period p → (WHOLE * b - 1 - s) * p / WHOLE ≡ roomOf p b s
   unfolding roomOf
-  room-idle h = rw h (div-zero (WHOLE * b - 1 - s))
-
-  pub room-none : WHOLE * b ≤ s → roomOf p b s ≡ 0
-  unfolding roomOf
-  room-none h =
-      let k : WHOLE * b - 1 - s ≡ 0 = omega arith in
-      rw k (zero-div (weightOf p))
-
-  pub room-is : (w : ℕ) → w ≡ weightOf p → (WHOLE * b - 1 - s) / w ≡ roomOf p b s
-  unfolding roomOf
-  room-is w q = ap (λ (x : ℕ). (WHOLE * b - 1 - s) / x) q
-
-  pub last-none : p ≡ 0 → lastOffsetOf p b s ≡ 0
-  unfolding lastOffsetOf
-  last-none h = rw (room-idle (weight-none p h), h)
+  room-is r =
+      let w : weightOf p * p ≡ WHOLE = mul-comm (weightOf p) p ∙ period-whole p r in
+      ap (λ (x : ℕ). (WHOLE * b - 1 - s) * p / x) (sym w) ∙ mul-div-mul-right (WHOLE * b - 1 - s) (weightOf p) (period-pos p r)
 
   pub last-period : p ≤ roomOf p b s → lastOffsetOf p b s ≡ p - 1
   unfolding lastOffsetOf
@@ -67,6 +64,41 @@ module _ (p b s : ℕ) where
   pub last-room : roomOf p b s < p → lastOffsetOf p b s ≡ roomOf p b s
   unfolding lastOffsetOf
   last-room h = min-eq-left (omega arith)
+
+-- The numbers from which the room of an entry in range is worked out are small.
+module _ (e : Entry) (h : entryInRange e ≡ true) where
+  pub room-left : e .shortfall < WHOLE * e .bound
+  room-left = omega (arith, in-range-from e h .kept)
+
+  pub room-product : (WHOLE * e .bound - 1 - e .shortfall) * e .period < WHOLE * WHOLE * LARGEST-BOUND
+  room-product =
+      let r = in-range-from e h in
+      let l : WHOLE * e .bound - 1 - e .shortfall ≤ WHOLE * LARGEST-BOUND - 1 = omega (arith, r .bound-high) in
+      omega (arith, mul-le-mul l (period-le (e .period) (r .period)))
+
+  pub room-small : (WHOLE * e .bound - 1 - e .shortfall) * e .period / WHOLE < WHOLE * LARGEST-BOUND
+  room-small = div-lt-iff-lt-mul {k = WHOLE} (omega arith) .1 (omega (arith, room-product))
+
+  -- No room is as large as 2,048.
+  pub room-below : room e < WHOLE * LARGEST-BOUND
+  room-below = omega (arith, room-small, room-is (e .period) (e .bound) (e .shortfall) (in-range-from e h .period))
+
+-- The bound is kept up to the first own slot: both sides times the period.
+pub kept-is : (p b s o : ℕ) → Period p → ltb (s * p + o * WHOLE) (WHOLE * b * p) ≡ keeps b (s + o * weightOf p)
+unfolding keeps
+kept-is p b s o r =
+    let w : weightOf p * p ≡ WHOLE = mul-comm (weightOf p) p ∙ period-whole p r in
+    let l : s * p + o * WHOLE ≡ (s + o * weightOf p) * p =
+    ap (λ (x : ℕ). s * p + o * x) (sym w) ∙ ap (λ (x : ℕ). s * p + x) (sym (mul-assoc o (weightOf p) p)) ∙ sym (add-mul s (o * weightOf p) p) in
+    ap (λ (x : ℕ). ltb x (WHOLE * b * p)) l ∙ scaled (s + o * weightOf p) (WHOLE * b) (decLt (s + o * weightOf p) (WHOLE * b))
+  where
+    scaled : (x y : ℕ) → Dec (x < y) → ltb (x * p) (y * p) ≡ ltb x y
+    scaled x y (yes h) = lt-ltb (x * p) (y * p) (mul-lt-mul-of-pos-right h (period-pos p r)) ∙ sym (lt-ltb x y h)
+    scaled x y (no h) = le-ltb (x * p) (y * p) (mul-le-mul-right p (omega arith)) ∙ sym (le-ltb x y (omega arith))
+
+-- The lowest bits of a number are its remainder by a period.
+pub phase-is : (n p : ℕ) → Period p → bitAnd n (p - 1) ≡ n % p
+phase-is n p r = rw (r .power) (and-mask n (r .k))
 
 -- A cyclic slot.
 module _ (e : Entry) (n : ℕ) where

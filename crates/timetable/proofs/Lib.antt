@@ -9,4 +9,6 @@ pub mod Listing
 pub mod ScanLaws
 pub mod EntryLaws
 pub mod SoundLaws
+pub mod Marks
+pub mod TakenLaws
 pub mod OwnerLaws

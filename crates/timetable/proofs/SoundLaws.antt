@@ -2,25 +2,22 @@
 use borrow.Author.Tests.{lt-ltb, le-ltb, le-leb, lt-leb, eq-eqb, ne-eqb, leb-true}
 use lib.Dec.{eqb, leb, ltb}
 use lib.ListN.{getD, length}
-use mathlib.Core.Bool.{Bool, true, false, cond, not, _&&_, _||_}
+use mathlib.Core.Bool.{Bool, true, false, cond, _&&_, _||_}
 use mathlib.Core.List.{List, [], _∷_}
-use mathlib.Core.Logic.{_↔_, _⊎_, inl, inr}
+use mathlib.Core.Logic.{_⊎_, inl, inr}
 use mathlib.Core.Path.{_≡_, refl, sym, ap, _∙_}
 use native.Mathlib.Decide.{ℕ-discrete}
 use native.Mathlib.Omega.{arith}
-use Prim.Native.Nat.{ℕ, zero, suc, _+_, _*_, _%_, _≤_, _<_}
-use Rattle.slots.proofs.Below.{and-both, every-at, every-all, decided}
+use Prim.Native.Nat.{ℕ, zero, suc, _+_, _*_, _≤_, _<_}
+use Rattle.slots.proofs.Below.{and-both, every-at, every-all, true-false}
 use Rattle.slots.specs.Below.{every}
-use Rattle.slots.specs.Limits.{IDS, LONGEST, WHOLE, LARGEST-BOUND, LAST-SLOT}
+use Rattle.slots.specs.Limits.{IDS, LONGEST, LARGEST-BOUND, LAST-SLOT}
 use Rattle.slots.specs.Shortfall.{keeps}
 use Rattle.timetable.proofs.EntryLaws.{unlisted, listed}
-use Rattle.timetable.proofs.Meet.{entries-meet}
-use Rattle.timetable.proofs.Ranges.{InRange, in-range-from, period-dvd, period-divides}
-use Rattle.timetable.proofs.Sound.{share-from, share-is}
 use Rattle.timetable.specs.declared.Entry.{Entry}
 use Rattle.timetable.specs.declared.Timetable.{Timetable}
-use Rattle.timetable.specs.Sound.{requestInRange, lengthInRange, baseAsStated, ownersListed, isPeriod, isBound, entryInRange, entryBlank, entriesInRange, shareNone, noneShared, unusedOwnersZero, isSound}
-use Rattle.timetable.specs.Timetable.{noEntry, entryOf, isListed, weight, cyclic}
+use Rattle.timetable.specs.Sound.{requestInRange, lengthInRange, baseAsStated, ownersListed, isPeriod, isBound, entryInRange, entryBlank, entriesInRange, noneShared, unusedOwnersZero, isSound}
+use Rattle.timetable.specs.Timetable.{noEntry, entryOf, isListed, weight}
 
 -- ---- one entry
 
@@ -131,63 +128,6 @@ module _ (t : Timetable) where
   unfolding requestInRange lengthInRange baseAsStated
   placed-base a b = rw (le-leb (t .request .0) LAST-SLOT a, le-leb (t .length) LONGEST b)
 
--- ---- shared slots
-
-both : (a b : Bool) → a && b ≡ b && a
-both true true = refl
-both true false = refl
-both false true = refl
-both false false = refl
-
--- It is the same to ask of f and e.
-pub share-swap : (e f : Entry) → shareNone e f ≡ shareNone f e
-unfolding shareNone
-share-swap e f = λ i. every WHOLE (λ n. not (both (cyclic e n) (cyclic f n) i))
-
--- Two entries in range share no slot exactly if the offset of the larger period does not lie in the smaller's class.
-pub share-test : (e f : Entry) → InRange e → InRange f → e .period ≤ f .period
-    → shareNone e f ≡ not (eqb (f .offset % e .period) (e .offset))
-share-test e f r s l = at (ℕ-discrete (f .offset % e .period) (e .offset)) (decided (shareNone e f))
-  where
-    meet : ((n : ℕ) × (cyclic e n ≡ true) × (cyclic f n ≡ true)) ↔ (f .offset % e .period ≡ e .offset)
-    meet = entries-meet e f (r .inside) (s .inside) (period-dvd (e .period) (f .period) (r .period) (s .period) l)
-
-    at : Dec (f .offset % e .period ≡ e .offset) → (shareNone e f ≡ true) ⊎ (shareNone e f ≡ false)
-        → shareNone e f ≡ not (eqb (f .offset % e .period) (e .offset))
-    at (yes q) (inl t) =
-        let w = meet .1 q in
-        absurd (share-from e f (period-divides _ (r .period)) (period-divides _ (s .period)) t (w .0) (w .1) (w .2))
-    at (yes q) (inr t) = t ∙ ap not (sym (eq-eqb _ _ q))
-    at (no q) d = share-is e f (λ n a b. q (meet .0 (n, a, b))) ∙ ap not (sym (ne-eqb _ _ q))
-
--- Two entries that are not both listed, or share no slot: by the tests on their periods.
-module _ (e f : Entry) where
-  abbrev pub apart : Bool
-  apart = not (isListed e && isListed f) || shareNone e f
-
-  pub apart-first : e .period ≡ 0 → apart ≡ true
-  apart-first h = rw h
-
-  pub apart-second : (e .period ≡ 0 → ⊥) → f .period ≡ 0 → apart ≡ true
-  apart-second n h = rw (listed (e .period) n, h)
-
-  module _
-      (he : isListed e ≡ true → entryInRange e ≡ true)
-      (hf : isListed f ≡ true → entryInRange f ≡ true)
-      (ne : e .period ≡ 0 → ⊥)
-      (nf : f .period ≡ 0 → ⊥) where
-    re : InRange e
-    re = in-range-from e (he (listed (e .period) ne))
-
-    rf : InRange f
-    rf = in-range-from f (hf (listed (f .period) nf))
-
-    pub apart-below : e .period ≤ f .period → apart ≡ not (eqb (f .offset % e .period) (e .offset))
-    apart-below l = rw (listed (e .period) ne, listed (f .period) nf) (share-test e f re rf l)
-
-    pub apart-above : f .period < e .period → apart ≡ not (eqb (e .offset % f .period) (f .offset))
-    apart-above l = rw (listed (e .period) ne, listed (f .period) nf) (share-swap e f ∙ share-test f e rf re (omega arith))
-
 -- ---- the loops' tests
 
 -- Past the end of the entries nothing is listed.
@@ -212,27 +152,31 @@ pub entry-range : (es : List Entry) (i : ℕ) → entriesInRange es ≡ true →
 unfolding entriesInRange
 entry-range es i h k l = sym (formed-listed (entryOf es i) l) ∙ every-at (entryTest es) IDS h i k
 
--- What none_shared asks of the ids i and j.
-abbrev pub pairTest : List Entry → ℕ → ℕ → Bool
-pairTest es i j = apart (entryOf es i) (entryOf es j)
-
-abbrev pub idTest : List Entry → ℕ → Bool
-idTest es i = every i (pairTest es i)
-
 -- What unused_owners_zero asks of place n.
-module _ (t : Timetable) where
+module _ (owners : List ℕ) (size : ℕ) where
   abbrev pub unusedTest : ℕ → Bool
-  unusedTest n = ltb n (t .length) || eqb (getD (t .owners) n 0) 0
+  unusedTest n = ltb n size || eqb (getD owners n 0) 0
 
-  pub unused-start : every (t .length) unusedTest ≡ true
-  unused-start = every-all unusedTest (t .length) (λ n h. ap (λ (b : Bool). b || eqb (getD (t .owners) n 0) 0) (lt-ltb n (t .length) h))
+  pub unused-start : every size unusedTest ≡ true
+  unused-start = every-all unusedTest size (λ n h. ap (λ (b : Bool). b || eqb (getD owners n 0) 0) (lt-ltb n size h))
 
-  pub unused-test : (n : ℕ) → t .length ≤ n → unusedTest n ≡ eqb (getD (t .owners) n 0) 0
-  unused-test n h = ap (λ (b : Bool). b || eqb (getD (t .owners) n 0) 0) (le-ltb n (t .length) h)
+  pub unused-test : (n : ℕ) → size ≤ n → unusedTest n ≡ eqb (getD owners n 0) 0
+  unused-test n h = ap (λ (b : Bool). b || eqb (getD owners n 0) 0) (le-ltb n size h)
 
 pub length-known : (t : Timetable) → lengthInRange t ≡ true → t .length ≤ LONGEST
 unfolding lengthInRange
 length-known t h = leb-true (t .length) LONGEST h
+
+-- Two tests, of which one fails, or neither.
+pub first-fails : (a b : Bool) → false ≡ a → false ≡ a && b
+first-fails a b h = rw (← h) refl
+
+pub second-fails : (a b : Bool) → false ≡ b → false ≡ a && b
+second-fails true b h = h
+second-fails false b h = refl
+
+pub both-pass : (a b : Bool) → true ≡ a → true ≡ b → true ≡ a && b
+both-pass a b h k = rw (← h, ← k) refl
 
 -- ---- the whole timetable, clause by clause
 
@@ -250,15 +194,17 @@ module _ (t : Timetable) where
     sound-owners b = rw (a, b)
 
     module _ (b : ownersListed t ≡ true) where
-      pub sound-entries : entriesInRange (t .entries) ≡ false → isSound t ≡ false
+      pub sound-entries : entriesInRange (t .entries) && noneShared (t .entries) ≡ false → isSound t ≡ false
       unfolding isSound
-      sound-entries d = rw (a, b, d)
+      sound-entries d = at (entriesInRange (t .entries)) (noneShared (t .entries)) refl refl
+        where
+          at : (x y : Bool) → entriesInRange (t .entries) ≡ x → noneShared (t .entries) ≡ y → isSound t ≡ false
+          at false y p q = rw (a, b, p) refl
+          at true false p q = rw (a, b, p, q) refl
+          at true true p q = absurd (true-false (rw (p, q) refl) d)
 
-      module _ (d : entriesInRange (t .entries) ≡ true) where
-        pub sound-shared : noneShared (t .entries) ≡ false → isSound t ≡ false
-        unfolding isSound
-        sound-shared f = rw (a, b, d, f)
-
-        pub sound-unused : noneShared (t .entries) ≡ true → isSound t ≡ unusedOwnersZero t
-        unfolding isSound
-        sound-unused f = rw (a, b, d, f)
+      pub sound-unused : entriesInRange (t .entries) && noneShared (t .entries) ≡ true → isSound t ≡ every LONGEST (unusedTest (t .owners) (t .length))
+      unfolding isSound unusedOwnersZero
+      sound-unused d =
+          let f = and-both (entriesInRange (t .entries)) (noneShared (t .entries)) d in
+          rw (a, b, f .0, f .1) refl

@@ -2,3 +2,4 @@ pub mod Timetable
 pub mod Sound
 pub mod History
 pub mod Owner
+pub mod Taken

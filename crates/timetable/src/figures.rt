@@ -1,10 +1,10 @@
 // The figures of one entry: its weight, room and last offset, and what it has been owed and given n slots after the base. Nothing here is refused.
 ghost use mathlib.Core.Bool.{true};
 ghost use mathlib.Core.Path.{_≡_};
-ghost use Prim.Native.Nat.{_+_, _-_, _<_};
+ghost use Prim.Native.Nat.{_+_, _-_, _%_, _<_};
 ghost use Rattle.slots.specs.Clocks.{sliceCount};
 ghost use Rattle.slots.specs.Limits.{WHOLE};
-ghost use Rattle.timetable.specs.Sound.{entryInRange};
+ghost use Rattle.timetable.specs.Sound.{entryInRange, isPeriod};
 ghost use Rattle.timetable.specs.Timetable.{isListed, weight, room, lastOffset, cyclic, shortfallAfter, slicesAfter};
 use crate::Entry;
 use crate::Timetable;
@@ -18,38 +18,41 @@ impl Entry {
         0 < self.period
     }
 
-    // Its weight, 256 / period; 0 for an entry that is not listed.
+    // Its weight, 256 / period; 0 for an entry that is not listed. A table spares the division for every period in range.
     pub fn weight(self) -> u16
         ensures { λ r. ⌜ r ≡ weight self ⌝ }
     {
-        if self.period == 0 {
-            return 0;
+        let p = self.period;
+        match p {
+            1 => 256,
+            2 => 128,
+            4 => 64,
+            8 => 32,
+            16 => 16,
+            32 => 8,
+            64 => 4,
+            128 => 2,
+            256 => 1,
+            0 => 0,
+            _ => Timetable::WHOLE / p,
         }
-        Timetable::WHOLE / self.period
     }
 
-    // Its room: the further idle slots it can bear; 0 for an entry that is not listed.
+    // Its room: the further idle slots it can bear. Dividing by the weight, 256 / period, is multiplying by the period and dividing by 256.
     pub fn room(self) -> u16
+        requires { ⌜ entryInRange self ≡ true ⌝ }
         ensures { λ r. ⌜ r ≡ room self ⌝ }
     {
         let limit = Timetable::WHOLE * (self.bound as u16);
-        let w = self.weight();
-        if w == 0 {
-            return 0;
-        }
-        if limit <= self.shortfall {
-            return 0;
-        }
-        (limit - 1 - self.shortfall) / w
+        let left = (limit - 1 - self.shortfall) as u32;
+        (left * (self.period as u32) / (Timetable::WHOLE as u32)) as u16
     }
 
-    // Its last offset: the smaller of room and period - 1; 0 for an entry that is not listed.
+    // Its last offset: the smaller of room and period - 1.
     pub fn last_offset(self) -> u16
+        requires { ⌜ entryInRange self ≡ true ⌝ }
         ensures { λ r. ⌜ r ≡ lastOffset self ⌝ }
     {
-        if self.period == 0 {
-            return 0;
-        }
         let most = self.room();
         if self.period <= most {
             self.period - 1
@@ -60,12 +63,13 @@ impl Entry {
 
     // Whether the slot n slots after the base is its own.
     pub fn takes(self, n: u64) -> bool
+        requires { ⌜ (isListed self ≡ true → entryInRange self ≡ true) ⌝ }
         ensures { λ r. ⌜ r ≡ cyclic self n ⌝ }
     {
         if self.period == 0 {
             return false;
         }
-        n % (self.period as u64) == (self.offset as u64)
+        phase(n, self.period) == (self.offset as u64)
     }
 
     // Its shortfall n slots after the base, without a walk: nothing is paid before the first own slot, and each period after it repeats.
@@ -78,7 +82,7 @@ impl Entry {
         if n <= offset {
             return self.shortfall + (n as u16) * w;
         }
-        let since = ((n - offset - 1) % (self.period as u64)) as u16;
+        let since = phase(n - offset - 1, self.period) as u16;
         let owed = self.shortfall + (self.offset as u16) * w + w;
         after_own(owed, since * w)
     }
@@ -94,6 +98,14 @@ impl Entry {
         }
         SliceCount((n - offset - 1) / (self.period as u64) + 1)
     }
+}
+
+// How far n slots reach into a period: the remainder by a power of two is its lowest bits.
+fn phase(n: u64, period: u16) -> u64
+    requires { ⌜ isPeriod period ≡ true ⌝ }
+    ensures { λ r. ⌜ r ≡ n % period ⌝ }
+{
+    n & ((period as u64) - 1)
 }
 
 // What is owed some slots after an own slot: it pays 256 of what was owed, surplus is not kept, and the slots since add their weight.

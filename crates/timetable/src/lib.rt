@@ -21,9 +21,9 @@ pub struct Entry {
 pub struct Timetable {
     pub request: CoreSlot,
     pub length: u8,
-    pub owners: [u8; 64],
+    pub owners: [u8; Timetable::LONGEST],
     pub base: CoreSlot,
-    pub entries: [Entry; 32],
+    pub entries: [Entry; Timetable::IDS],
 }
 
 impl Timetable {

@@ -5,7 +5,7 @@ ghost use Prim.Native.Nat.{_<_, _≤_};
 ghost use Rattle.slots.specs.Below.{first};
 ghost use Rattle.slots.specs.Limits.{IDS};
 ghost use Rattle.timetable.specs.Owner.{ownerNumber};
-ghost use Rattle.timetable.specs.Sound.{isSound};
+ghost use Rattle.timetable.specs.Sound.{entriesInRange, isSound};
 ghost use Rattle.timetable.specs.Timetable.{entryOf, lists, cyclic, ownerAt};
 use crate::Timetable;
 use slots::CoreSlot;
@@ -36,6 +36,7 @@ impl Timetable {
 
     // The id that has the slot n slots after the base as a cyclic slot, or 255.
     fn cyclic_owner(self, n: u64) -> u8
+        requires { ⌜ entriesInRange (self .entries) ≡ true ⌝ }
         ensures { λ r. ⌜ r ≡ ownerNumber (first IDS (λ i. cyclic (entryOf (self .entries) i) n)) ⌝ }
     {
         let mut id: usize = 0;

@@ -1,14 +1,20 @@
 // Whether a timetable is sound, clause by clause, whatever its fields hold. Nothing here is refused.
-ghost use mathlib.Core.Bool.{true, cond, not, _&&_, _||_};
+ghost use lib.Dec.{eqb, ltb};
+ghost use lib.ListN.{getD, length};
+ghost use mathlib.Core.Bool.{true, cond, _&&_, _||_};
 ghost use mathlib.Core.Path.{_≡_};
-ghost use Prim.Native.Nat.{_+_, _*_, _<_};
+ghost use Prim.Native.Nat.{_+_, _*_, _≤_};
 ghost use Rattle.slots.specs.Below.{every};
-ghost use Rattle.slots.specs.Limits.{IDS};
+ghost use Rattle.slots.specs.Limits.{LONGEST, WHOLE};
 ghost use Rattle.slots.specs.Shortfall.{keeps};
-ghost use Rattle.timetable.specs.Sound.{requestInRange, lengthInRange, baseAsStated, ownersListed, isPeriod, isBound, entryInRange, entryBlank, entriesInRange, shareNone, noneShared, unusedOwnersZero, isSound};
-ghost use Rattle.timetable.specs.Timetable.{entryOf, isListed, weight};
+ghost use Rattle.timetable.specs.Sound.{requestInRange, lengthInRange, baseAsStated, ownersListed, isPeriod, isBound, entryInRange, entryBlank, entriesInRange, noneShared, isSound};
+ghost use Rattle.timetable.specs.Taken.{Takes};
+ghost use Rattle.timetable.specs.Timetable.{isListed, weight};
 use crate::Entry;
 use crate::Timetable;
+
+// The slots of one cycle.
+const WHOLE: usize = Timetable::WHOLE as usize;
 
 impl Timetable {
     // Whether the timetable is sound.
@@ -21,13 +27,10 @@ impl Timetable {
         if !self.owners_listed() {
             return false;
         }
-        if !self.entries_in_range() {
+        if !self.entries_fit() {
             return false;
         }
-        if !self.none_shared() {
-            return false;
-        }
-        self.unused_owners_zero()
+        unused_owners_zero(&self.owners, self.length)
     }
 
     // Request slot and length in range, and the base as stated.
@@ -51,11 +54,12 @@ impl Timetable {
         let size = self.length as usize;
         let mut n: usize = 0;
         while n < size {
-            let owner = self.owners[n];
-            if Timetable::IDS <= (owner as usize) {
+            let owner = self.owners[n] as usize;
+            if Timetable::IDS <= owner {
                 return false;
             }
-            if !self.lists(owner) {
+            let e = self.entries[owner];
+            if !e.is_listed() {
                 return false;
             }
             n += 1;
@@ -63,70 +67,39 @@ impl Timetable {
         true
     }
 
-    // Each listed entry is in range, and each other one all zero.
-    fn entries_in_range(self) -> bool
-        ensures { λ r. ⌜ r ≡ entriesInRange (self .entries) ⌝ }
+    // Each listed entry is in range and each other one all zero, and no two share a cyclic slot: each in turn takes its slots of one cycle, and finds none taken.
+    fn entries_fit(self) -> bool
+        ensures { λ r. ⌜ r ≡ (entriesInRange (self .entries) && noneShared (self .entries)) ⌝ }
     {
+        let mut taken = [false; WHOLE];
         let mut id: usize = 0;
         while id < Timetable::IDS {
             let e = self.entries[id];
             if !e.is_well_formed() {
                 return false;
             }
-            id += 1;
-        }
-        true
-    }
-
-    // No two partitions share a cyclic slot.
-    fn none_shared(self) -> bool
-        requires { ⌜ entriesInRange (self .entries) ≡ true ⌝ }
-        ensures { λ r. ⌜ r ≡ noneShared (self .entries) ⌝ }
-    {
-        let mut id: usize = 0;
-        while id < Timetable::IDS {
-            if !self.shares_none_below(id) {
+            if !take_slots(&mut taken, e) {
                 return false;
             }
             id += 1;
         }
         true
     }
+}
 
-    // The entry of an id shares no cyclic slot with that of a lower id.
-    fn shares_none_below(self, id: usize) -> bool
-        requires { ⌜ entriesInRange (self .entries) ≡ true ⌝ }
-        requires { ⌜ id < IDS ⌝ }
-        ensures { λ r. ⌜ r ≡ every id (λ j.
-            not (isListed (entryOf (self .entries) id) && isListed (entryOf (self .entries) j))
-            || shareNone (entryOf (self .entries) id) (entryOf (self .entries) j)) ⌝ }
-    {
-        let e = self.entries[id];
-        let mut lower: usize = 0;
-        while lower < id {
-            let f = self.entries[lower];
-            if !e.is_apart(f) {
-                return false;
-            }
-            lower += 1;
+// The owners past the transition are zero.
+fn unused_owners_zero(owners: &[u8; Timetable::LONGEST], size: u8) -> bool
+    requires { ⌜ size ≤ LONGEST ⌝ }
+    ensures { λ r. ⌜ r ≡ every LONGEST (λ n. ltb n size || eqb (getD (now (owners .entry)) n 0) 0) ⌝ }
+{
+    let mut n = size as usize;
+    while n < Timetable::LONGEST {
+        if owners[n] != 0 {
+            return false;
         }
-        true
+        n += 1;
     }
-
-    // The owners past the transition are zero.
-    fn unused_owners_zero(self) -> bool
-        requires { ⌜ lengthInRange self ≡ true ⌝ }
-        ensures { λ r. ⌜ r ≡ unusedOwnersZero self ⌝ }
-    {
-        let mut n = self.length as usize;
-        while n < Timetable::LONGEST {
-            if self.owners[n] != 0 {
-                return false;
-            }
-            n += 1;
-        }
-        true
-    }
+    true
 }
 
 impl Entry {
@@ -159,13 +132,15 @@ impl Entry {
         self.is_kept()
     }
 
-    // Shortfall + offset x weight is below 256 R.
+    // Shortfall + offset x weight is below 256 R: both sides times the period, since period x weight is 256.
     fn is_kept(self) -> bool
+        requires { ⌜ isPeriod (self .period) ≡ true ⌝ }
         ensures { λ r. ⌜ r ≡ keeps (self .bound) (self .shortfall + self .offset * weight self) ⌝ }
     {
-        let w = self.weight() as u32;
-        let owed = (self.shortfall as u32) + (self.offset as u32) * w;
-        owed < (Timetable::WHOLE as u32) * (self.bound as u32)
+        let whole = Timetable::WHOLE as u32;
+        let p = self.period as u32;
+        let owed = (self.shortfall as u32) * p + (self.offset as u32) * whole;
+        owed < whole * (self.bound as u32) * p
     }
 
     // Offset, bound and shortfall are all zero.
@@ -180,25 +155,27 @@ impl Entry {
         }
         self.shortfall == 0
     }
+}
 
-    // Two entries are not both listed, or share no cyclic slot: the offset of the larger period does not fall on the smaller's slots.
-    fn is_apart(self, f: Entry) -> bool
-        requires { ⌜ (isListed self ≡ true → entryInRange self ≡ true) ⌝ }
-        requires { ⌜ (isListed f ≡ true → entryInRange f ≡ true) ⌝ }
-        ensures { λ r. ⌜ r ≡ (not (isListed self && isListed f) || shareNone self f) ⌝ }
-    {
-        if self.period == 0 {
-            return true;
-        }
-        if f.period == 0 {
-            return true;
-        }
-        if self.period <= f.period {
-            (f.offset as u16) % self.period != (self.offset as u16)
-        } else {
-            (self.offset as u16) % f.period != (f.offset as u16)
-        }
+// An entry takes its slots of one cycle, if none of them is taken.
+fn take_slots(taken: &mut [bool; WHOLE], e: Entry) -> bool
+    requires { ⌜ length (now taken) ≡ WHOLE ⌝ }
+    requires { ⌜ (isListed e ≡ true → entryInRange e ≡ true) ⌝ }
+    ensures { λ r. ⌜ Takes (now (taken .entry)) e r (now (taken .exit)) ⌝ }
+{
+    if e.period == 0 {
+        return true;
     }
+    let period = e.period as usize;
+    let mut slot = e.offset as usize;
+    while slot < WHOLE {
+        if taken[slot] {
+            return false;
+        }
+        taken[slot] = true;
+        slot += period;
+    }
+    true
 }
 
 // A period is a power of two from 1 to 256.

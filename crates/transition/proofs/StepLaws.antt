@@ -22,50 +22,69 @@ use Rattle.timetable.specs.Sound.{entriesInRange}
 use Rattle.timetable.specs.Timetable.{entryOf, isListed, weight, room, each, withShortfall}
 use Rattle.transition.proofs.Plans.{overEntry}
 use Rattle.transition.proofs.UrgentRule.{Told, told}
-use Rattle.transition.specs.Coded.{urgentOf, lessRoom, beside, bearsOne, nextOf}
+use Rattle.transition.specs.Coded.{urgentOf, bearsOne, nextOf}
 use Rattle.transition.specs.declared.Plan.{Plan}
-use Rattle.transition.specs.declared.Urgent.{Urgent}
 use Rattle.transition.specs.declared.Urgent.the-variants.{Id, Nobody}
 use Rattle.transition.specs.Transition.{moreUrgent, mostUrgent, isMissed, overAll, longer}
 
 -- ---- the most urgent
 
--- An id that is not listed leaves the most urgent so far.
-pub beside-unlisted : (e : Entry) (n : ℕ) (best : Urgent) → isListed e ≡ false → best ≡ beside e n best
-unfolding beside
-beside-unlisted e n best h = rw h
-
-module _ (e : Entry) (n : ℕ) (best : Urgent) (l : isListed e ≡ true) {r : ℕ} (q : r ≡ room e) where
-  -- The first that is listed is the most urgent.
-  pub beside-first : best ≡ Nobody → Id n r ≡ beside e n best
-  unfolding beside lessRoom
-  beside-first b = rw (l, b, q)
-
-  -- One with less room takes its place.
-  pub beside-less : (u s : ℕ) → best ≡ Id u s → r < s → Id n r ≡ beside e n best
-  unfolding beside lessRoom
-  beside-less u s b k = rw (l, b, ← q) (rw (lt-ltb r s k))
-
-  -- One with as much room or more does not.
-  pub beside-kept : (u s : ℕ) → best ≡ Id u s → s ≤ r → Id u s ≡ beside e n best
-  unfolding beside lessRoom
-  beside-kept u s b k = rw (l, b, ← q) (rw (le-ltb r s k))
+-- What a scan that has come to id n holds: nobody is listed so far, which the number of ids and the largest room stand for, or the most urgent with its room.
+abbrev pub Best : List Entry → ℕ → ℕ → ℕ → Type 0
+Best es n u least =
+    ((mostUrgent es n ≡ none) × (u ≡ IDS) × (least ≡ 65535)) ⊎ ((mostUrgent es n ≡ some u) × (u < IDS) × (least ≡ room (entryOf es u)))
 
 module _ (es : List Entry) where
-  -- One id more beside the most urgent of the ids below it.
-  pub urgent-more : (n : ℕ) → urgentOf es (mostUrgent es (n + 1)) ≡ beside (entryOf es n) n (urgentOf es (mostUrgent es n))
-  unfolding mostUrgent moreUrgent urgentOf beside lessRoom
-  urgent-more n = rw add-one (at (isListed (entryOf es n)) (mostUrgent es n))
-    where
-      less : (u : ℕ) (b : Bool) → urgentOf es (cond b (some n) (some u)) ≡ cond b (Id n (room (entryOf es n))) (Id u (room (entryOf es u)))
-      less u true = refl
-      less u false = refl
+  -- At the start nobody is.
+  pub best-start : Best es 0 IDS 65535
+  unfolding mostUrgent
+  best-start = inl (refl, refl, refl)
 
-      at : (b : Bool) (o : Option ℕ)
-          → urgentOf es (elim b [ true ↦ moreUrgent es n o | false ↦ o ]) ≡ cond b (lessRoom n (room (entryOf es n)) (urgentOf es o)) (urgentOf es o)
-      at false o = refl
-      at true none = refl
-      at true (some u) = less u (ltb (room (entryOf es n)) (room (entryOf es u)))
+  -- An id that is not listed, the first that is, and one beside another.
+  urgent-unlisted : (n : ℕ) → isListed (entryOf es n) ≡ false → mostUrgent es (n + 1) ≡ mostUrgent es n
+  unfolding mostUrgent
+  urgent-unlisted n h = rw (add-one, mostUrgent, h) refl
+
+  urgent-first : (n : ℕ) → isListed (entryOf es n) ≡ true → mostUrgent es n ≡ none → mostUrgent es (n + 1) ≡ some n
+  unfolding mostUrgent moreUrgent
+  urgent-first n l e = rw (add-one, mostUrgent, l, e) refl
+
+  urgent-beside : (n u : ℕ) → isListed (entryOf es n) ≡ true → mostUrgent es n ≡ some u
+      → mostUrgent es (n + 1) ≡ cond (ltb (room (entryOf es n)) (room (entryOf es u))) (some n) (some u)
+  unfolding mostUrgent moreUrgent
+  urgent-beside n u l e = rw (add-one, mostUrgent, l, e) refl
+
+  module _ (n u least : ℕ) where
+    -- An id that is not listed leaves it.
+    pub best-unlisted : isListed (entryOf es n) ≡ false → Best es n u least → Best es (n + 1) u least
+    best-unlisted h (inl b) = inl (urgent-unlisted n h ∙ b .0, b .1, b .2)
+    best-unlisted h (inr b) = inr (urgent-unlisted n h ∙ b .0, b .1, b .2)
+
+    module _ (l : isListed (entryOf es n) ≡ true) (r : ℕ) (q : r ≡ room (entryOf es n)) where
+      -- One with less room takes its place, as the first does,
+      pub best-less : n < IDS → r < least → Best es n u least → Best es (n + 1) n r
+      best-less k h (inl b) = inr (urgent-first n l (b .0), k, q)
+      best-less k h (inr b) =
+          let t = lt-ltb (room (entryOf es n)) (room (entryOf es u)) (omega (arith, q, b .2)) in
+          inr (urgent-beside n u l (b .0) ∙ ap (λ (x : Bool). cond x (some n) (some u)) t, k, q)
+
+      -- and one with as much or more does not.
+      pub best-kept : r < 65535 → least ≤ r → Best es n u least → Best es (n + 1) u least
+      best-kept k h (inl b) = absurd (omega (arith, b .2))
+      best-kept k h (inr b) =
+          let t = le-ltb (room (entryOf es n)) (room (entryOf es u)) (omega (arith, q, b .2)) in
+          inr (urgent-beside n u l (b .0) ∙ ap (λ (x : Bool). cond x (some n) (some u)) t, b .1, b .2)
+
+  -- What it is answered as.
+  pub best-nobody : (u least : ℕ) → Best es IDS u least → u ≡ IDS → Nobody ≡ urgentOf es (mostUrgent es IDS)
+  unfolding urgentOf
+  best-nobody u least (inl b) h = rw (b .0) refl
+  best-nobody u least (inr b) h = absurd (omega (arith, b .1))
+
+  pub best-id : (u least : ℕ) → Best es IDS u least → (u ≡ IDS → ⊥) → Id u least ≡ urgentOf es (mostUrgent es IDS)
+  unfolding urgentOf
+  best-id u least (inl b) h = absurd (h (b .1))
+  best-id u least (inr b) h = rw (b .0, b .2) refl
 
   -- What the code's answer says of the most urgent id.
   pub urgent-nobody : (o : Option ℕ) → urgentOf es o ≡ Nobody → o ≡ none

@@ -1,6 +1,6 @@
 -- The code's answers of the transition, in the definitions' words.
 use lib.Dec.{ltb}
-use mathlib.Core.Bool.{Bool, true, false, cond, not, _||_}
+use mathlib.Core.Bool.{Bool, true, false, not, _||_}
 use mathlib.Core.List.{List}
 use mathlib.Core.Option.{Option, none, some}
 use mathlib.Core.Path.{_≡_}
@@ -19,15 +19,6 @@ use Rattle.transition.specs.declared.Urgent.the-variants.{Id, Nobody}
 unfoldable pub urgentOf : List Entry → Option ℕ → Urgent
 urgentOf es none = Nobody
 urgentOf es (some u) = Id u (room (entryOf es u))
-
--- An id with its room beside the most urgent so far: it is more urgent if it has less room.
-unfoldable pub lessRoom : ℕ → ℕ → Urgent → Urgent
-lessRoom n r Nobody = Id n r
-lessRoom n r (Id u s) = cond (ltb r s) (Id n r) (Id u s)
-
--- The entry of id n beside the most urgent so far.
-unfoldable pub beside : Entry → ℕ → Urgent → Urgent
-beside e n best = cond (isListed e) (lessRoom n (room e) best) best
 
 -- An entry gets the slot, is not listed, or has room for it to go elsewhere.
 unfoldable pub bearsOne : Entry → Bool → Bool

@@ -4,9 +4,9 @@ ghost use mathlib.Core.Path.{_≡_};
 ghost use Prim.Native.Nat.{_-_, _*_, _<_};
 ghost use Rattle.slots.specs.Limits.{IDS, LONGEST, WHOLE, LARGEST-BOUND};
 ghost use Rattle.slots.specs.Shortfall.{overSlot};
-ghost use Rattle.timetable.specs.Sound.{entriesInRange};
-ghost use Rattle.timetable.specs.Timetable.{weight, withShortfall};
-ghost use Rattle.transition.specs.Coded.{urgentOf, beside, bearsOne, nextOf};
+ghost use Rattle.timetable.specs.Sound.{entryInRange, entriesInRange};
+ghost use Rattle.timetable.specs.Timetable.{isListed, weight, withShortfall};
+ghost use Rattle.transition.specs.Coded.{urgentOf, bearsOne, nextOf};
 ghost use Rattle.transition.specs.Transition.{mostUrgent, isMissed, overAll, longer};
 use crate::Next;
 use crate::Plan;
@@ -39,40 +39,34 @@ pub fn longer(plan: Plan, n: u8) -> Next
     }
 }
 
-// The listed id with the least room, ties to the lower id.
+// The listed id with the least room, ties to the lower id. No room is as large as that of nobody.
 fn most_urgent(entries: [Entry; Timetable::IDS]) -> Urgent
+    requires { ⌜ entriesInRange entries ≡ true ⌝ }
     ensures { λ r. ⌜ r ≡ urgentOf entries (mostUrgent entries IDS) ⌝ }
 {
-    let mut best = Urgent::Nobody;
+    let mut urgent = Timetable::IDS;
+    let mut least = u16::MAX;
     let mut id: usize = 0;
     while id < Timetable::IDS {
         let e = entries[id];
-        best = more_urgent(e, id, best);
+        if e.is_listed() {
+            let room = e.room();
+            if room < least {
+                urgent = id;
+                least = room;
+            }
+        }
         id += 1;
     }
-    best
-}
-
-// One more id beside the most urgent so far.
-fn more_urgent(e: Entry, id: usize, best: Urgent) -> Urgent
-    ensures { λ r. ⌜ r ≡ beside e id best ⌝ }
-{
-    if !e.is_listed() {
-        return best;
+    if urgent == Timetable::IDS {
+        return Urgent::Nobody;
     }
-    let room = e.room();
-    let Urgent::Id(_, least) = best else {
-        return Urgent::Id(id, room);
-    };
-    if room < least {
-        Urgent::Id(id, room)
-    } else {
-        best
-    }
+    Urgent::Id(urgent, least)
 }
 
 // Whether another listed id than u has no room.
 fn is_missed(entries: [Entry; Timetable::IDS], u: usize) -> bool
+    requires { ⌜ entriesInRange entries ≡ true ⌝ }
     ensures { λ r. ⌜ r ≡ isMissed entries u ⌝ }
 {
     let mut id: usize = 0;
@@ -88,6 +82,7 @@ fn is_missed(entries: [Entry; Timetable::IDS], u: usize) -> bool
 
 // Whether an entry gets the slot, is not listed, or has room for it to go elsewhere.
 fn bears_one(e: Entry, own: bool) -> bool
+    requires { ⌜ (isListed e ≡ true → entryInRange e ≡ true) ⌝ }
     ensures { λ r. ⌜ r ≡ bearsOne e own ⌝ }
 {
     if own {

@@ -1,10 +1,11 @@
 -- `mark` meets its contract. The loop's invariant: the slots of the offset below the slot are taken, and no others besides. Assumes nothing.
 use borrow.Author.Needs.{needs}
 use Prim.Native.Nat.{_-_}
-use Rattle.placement.proofs.Table.{Marked, marked-none, marked-more, marked-all}
+use Rattle.placement.proofs.Table.{marked-all}
 use Rattle.placement.proofs.taken.mark.Statement.{statement}
 use Rattle.placement.proofs.taken.mark.Tie as tie
 use Rattle.slots.specs.Limits.{WHOLE}
+use Rattle.timetable.proofs.Marks.{Marked, marked-none, marked-more}
 
 abbrev Inv-loop : tie.InvT-loop
 Inv-loop taken₀ period offset slot₀ taken slot = Marked taken₀ period offset taken slot
@@ -34,7 +35,7 @@ returns : tie.Need-returns Inv-loop μ-loop
 returns c =
     let s = c .before .before in
     let l = c .before .loop in
-    marked-all _ (s .args .period) (s .args .offset) (s .pre .0) (l .taken) (l .slot) (c .loop-test .left) (l .inv)
+    marked-all _ (s .args .period) (s .args .offset) (l .taken) (l .slot) (c .loop-test .left) (l .inv)
 
 pub mark-spec : {M : Type 1} → statement M
 mark-spec =

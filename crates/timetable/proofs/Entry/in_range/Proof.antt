@@ -39,7 +39,7 @@ returns-3 c =
     sym (range-offset (l .before .before .args .self) (period l) (bound k) (c .if3 .taken))
 
 is-kept-requires : tie.Need-is-kept-requires
-is-kept-requires c κs = search needs
+is-kept-requires c κs = period (c .before .before .before .before)
 
 returns-4 : tie.Need-returns-4
 returns-4 c =

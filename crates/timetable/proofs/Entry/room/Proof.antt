@@ -1,7 +1,8 @@
--- `room` first answers 0 for a weight of 0 and for a bound that is used up; then no difference of the definition is cut off at 0. Assumes nothing.
+-- `room` multiplies by the period and divides by 256; an entry in range has a shortfall below 256 R, so nothing is cut off at 0. Assumes nothing.
 use borrow.Author.Needs.{needs}
-use mathlib.Core.Path.{sym, _∙_}
-use Rattle.timetable.proofs.EntryLaws.{room-idle, room-none, room-is}
+use native.Mathlib.Omega.{arith}
+use Rattle.timetable.proofs.EntryLaws.{room-is, room-left, room-product, room-small}
+use Rattle.timetable.proofs.Ranges.{in-range-from}
 use Rattle.timetable.proofs.Entry.room.Statement.{statement}
 use Rattle.timetable.proofs.Entry.room.Tie as tie
 
@@ -11,33 +12,35 @@ cast-limit c = search needs
 mul-limit : tie.Need-mul-limit
 mul-limit c = search needs
 
-weight-requires : tie.Need-weight-requires
-weight-requires c κs = search needs
+sub-left : tie.Need-sub-left
+sub-left c = let s = c .before in omega (arith, in-range-from (s .args .self) (s .pre) .bound-low)
 
-returns : tie.Need-returns
-returns c =
-    let e = c .before .before .before .args .self in
-    sym (room-idle (e .period) (e .bound) (e .shortfall) (sym (c .before .weight .ensures) ∙ c .if1 .taken))
+sub-left-2 : tie.Need-sub-left-2
+sub-left-2 c = let s = c .before .before in omega (arith, room-left (s .args .self) (s .pre))
 
-returns-2 : tie.Need-returns-2
-returns-2 c =
-    let e = c .before .before .before .before .before .args .self in
-    sym (room-none (e .period) (e .bound) (e .shortfall) (c .if2 .taken))
+cast-left : tie.Need-cast-left
+cast-left c = search needs
 
-sub-result : tie.Need-sub-result
-sub-result c = search needs
+cast-result : tie.Need-cast-result
+cast-result c = search needs
 
-sub-result-2 : tie.Need-sub-result-2
-sub-result-2 c = search needs
+mul-result : tie.Need-mul-result
+mul-result c = let s = c .before .before .before in omega (arith, room-product (s .args .self) (s .pre))
+
+cast-result-2 : tie.Need-cast-result-2
+cast-result-2 c = search needs
 
 div-result : tie.Need-div-result
 div-result c = search needs
 
-returns-3 : tie.Need-returns-3
-returns-3 c =
-    let e = c .before .before .before .before .before .before .args .self in
-    let w = c .before .before .before .before .weight in
-    room-is (e .period) (e .bound) (e .shortfall) (w .result) (w .ensures)
+cast-result-3 : tie.Need-cast-result-3
+cast-result-3 c = let s = c .before .before .before in omega (arith, room-small (s .args .self) (s .pre))
+
+returns : tie.Need-returns
+returns c =
+    let s = c .before .before .before in
+    let e = s .args .self in
+    room-is (e .period) (e .bound) (e .shortfall) (in-range-from e (s .pre) .period)
 
 pub room-spec : {M : Type 1} → statement M
 room-spec =
@@ -45,10 +48,12 @@ room-spec =
     (tie.spec
     cast-limit
     mul-limit
-    weight-requires
-    returns
-    returns-2
-    sub-result
-    sub-result-2
+    sub-left
+    sub-left-2
+    cast-left
+    cast-result
+    mul-result
+    cast-result-2
     div-result
-    returns-3)
+    cast-result-3
+    returns)

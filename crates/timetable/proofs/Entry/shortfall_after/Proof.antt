@@ -1,13 +1,13 @@
 -- `shortfall_after` follows the closed form: nothing is paid before the first own slot; after it, what it leaves and the slots since the last own one are owed.
 -- Every sum is below 256 x 10, and so fits. Assumes nothing.
 use borrow.Author.Needs.{needs}
-use mathlib.Core.Path.{_∙_}
+use mathlib.Core.Path.{ap, _∙_}
 use native.Mathlib.Nat.{mod-lt}
 use native.Mathlib.Omega.{arith}
-use Prim.Native.Nat.{_+_, _-_, _*_, _%_, _≤_, _<_}
+use Prim.Native.Nat.{ℕ, _+_, _-_, _*_, _%_, _≤_, _<_}
 use Rattle.slots.specs.Limits.{WHOLE, LARGEST-BOUND}
 use Rattle.timetable.proofs.EntryLaws.{before-small, before-is, owed-small, since-small, after-is}
-use Rattle.timetable.proofs.Ranges.{in-range-from}
+use Rattle.timetable.proofs.Ranges.{in-range-from, period-is}
 use Rattle.timetable.proofs.Entry.shortfall_after.Statement.{statement}
 use Rattle.timetable.proofs.Entry.shortfall_after.Tie as tie
 
@@ -47,22 +47,22 @@ returns c =
     let s = k .before in
     before-is (s .args .self) (s .pre) (k .weight .result) (k .weight .ensures) (s .args .n) (c .before .if1 .taken)
 
-sub-since : tie.Need-sub-since
-sub-since c = search needs
+sub-phase : tie.Need-sub-phase
+sub-phase c = search needs
 
-sub-since-2 : tie.Need-sub-since-2
-sub-since-2 c = search needs
+sub-phase-2 : tie.Need-sub-phase-2
+sub-phase-2 c = search needs
+
+phase-requires : tie.Need-phase-requires
+phase-requires c κs =
+    let s = c .before .before .before in
+    period-is (s .args .self .period) (in-range-from (s .args .self) (s .pre) .period)
 
 cast-since : tie.Need-cast-since
-cast-since c = search needs
-
-rem-since : tie.Need-rem-since
-rem-since c = omega (arith, in-range-from (c .before .before .before .before .args .self) (c .before .before .before .before .pre) .inside)
-
-cast-since-2 : tie.Need-cast-since-2
-cast-since-2 c =
-    let a = c .before .before .before .before .args in
-    omega (arith, mod-lt (a .n - a .self .offset - 1) {m = a .self .period} (rem-since c))
+cast-since c =
+    let s = c .before .before .before .before in
+    let r = in-range-from (s .args .self) (s .pre) in
+    omega (arith, c .phase .ensures, mod-lt (s .args .n - s .args .self .offset - 1) {m = s .args .self .period} (omega (arith, r .inside)))
 
 cast-owed : tie.Need-cast-owed
 cast-owed c = search needs
@@ -76,18 +76,28 @@ add-owed c = omega (arith, owed (c .before .before .before .before .before))
 add-owed-2 : tie.Need-add-owed-2
 add-owed-2 c = omega (arith, owed (c .before .before .before .before .before))
 
+-- What the slots since the last own one add.
+after : (c : tie.After-phase) → c .phase .result * c .before .before .before .weight .result < WHOLE
+after c =
+    let w = c .before .before .before in
+    omega (arith, since w, ap (λ (x : ℕ). x * w .weight .result) (c .phase .ensures))
+
 mul-after-own : tie.Need-mul-after-own
-mul-after-own c = omega (arith, since (c .before .before .before .before .before))
+mul-after-own c = omega (arith, after (c .before .before))
 
 after-own-requires : tie.Need-after-own-requires
-after-own-requires c κs = let w = c .before .before .before .before .before in omega (arith, owed w, since w)
+after-own-requires c κs = omega (arith, owed (c .before .before .before .before .before), after (c .before .before))
 
 returns-2 : tie.Need-returns-2
 returns-2 c =
-    let k = c .before .before .before .before .before .before in
+    let f = c .before .before .before in
+    let k = f .before .before .before in
     let s = k .before in
     c .after-own .ensures
-    ∙ after-is (s .args .self) (s .pre) (k .weight .result) (k .weight .ensures) (s .args .n) (c .before .before .before .before .if1 .left)
+    ∙ ap
+    (λ (x : ℕ). s .args .self .shortfall + s .args .self .offset * k .weight .result + k .weight .result - WHOLE + x * k .weight .result)
+    (f .phase .ensures)
+    ∙ after-is (s .args .self) (s .pre) (k .weight .result) (k .weight .ensures) (s .args .n) (f .before .if1 .left)
 
 pub shortfall-after-spec : {M : Type 1} → statement M
 shortfall-after-spec =
@@ -99,11 +109,10 @@ shortfall-after-spec =
     mul-result
     add-result
     returns
-    sub-since
-    sub-since-2
+    sub-phase
+    sub-phase-2
+    phase-requires
     cast-since
-    rem-since
-    cast-since-2
     cast-owed
     mul-owed
     add-owed

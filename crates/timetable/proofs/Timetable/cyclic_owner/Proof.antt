@@ -7,6 +7,7 @@ use Rattle.slots.specs.Below.{first}
 use Rattle.slots.specs.Limits.{IDS}
 use Rattle.timetable.proofs.OwnerLaws.{owns}
 use Rattle.timetable.proofs.ScanLaws.{first-more, first-end, first-here}
+use Rattle.timetable.proofs.SoundLaws.{entry-range}
 use Rattle.timetable.specs.Owner.{ownerNumber}
 use Rattle.timetable.proofs.Timetable.cyclic_owner.Statement.{statement}
 use Rattle.timetable.proofs.Timetable.cyclic_owner.Tie as tie
@@ -28,7 +29,7 @@ element-copy-out-e : tie.Need-element-copy-out-e Inv-loop μ-loop
 element-copy-out-e c = omega arith
 
 takes-requires : tie.Need-takes-requires Inv-loop μ-loop
-takes-requires c κs = tt
+takes-requires c κs = let s = c .before .before .before in entry-range (s .args .t1 .entries) (c .before .before .loop .id) (s .pre) (c .before .loop-test .taken)
 
 cast-result : tie.Need-cast-result Inv-loop μ-loop
 cast-result c = omega arith

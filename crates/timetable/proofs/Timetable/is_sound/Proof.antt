@@ -1,70 +1,60 @@
 -- `is_sound` asks for the clauses in the definition's order, each where the ones before it hold. Assumes nothing.
 use borrow.Author.Needs.{needs}
-use mathlib.Core.Bool.{true}
+use mathlib.Core.Bool.{true, _&&_}
 use mathlib.Core.Path.{_≡_, sym, _∙_}
 use Rattle.timetable.proofs.ScanLaws.{refused, passed}
-use Rattle.timetable.proofs.SoundLaws.{placed, placed-length, sound-placed, sound-owners, sound-entries, sound-shared, sound-unused}
+use Rattle.timetable.proofs.SoundLaws.{placed, placed-length, length-known, sound-placed, sound-owners, sound-entries, sound-unused}
 use Rattle.timetable.specs.Sound.{ownersListed, entriesInRange, noneShared}
 use Rattle.timetable.proofs.Timetable.is_sound.Statement.{statement}
 use Rattle.timetable.proofs.Timetable.is_sound.Tie as tie
 
 -- What each answer leaves.
-first : (c : tie.Else1) → placed (c .before .before .args .self) ≡ true
+first : (c : tie.Else1) → placed (c .before .before .args .t1) ≡ true
 first c = passed _ _ (c .before .is-placed .ensures) (c .if1 .left)
 
-second : (c : tie.Else2) → ownersListed (c .before .before .before .before .args .self) ≡ true
+second : (c : tie.Else2) → ownersListed (c .before .before .before .before .args .t1) ≡ true
 second c = passed _ _ (c .before .owners-listed .ensures) (c .if2 .left)
 
-third : (c : tie.Else3) → entriesInRange (c .before .before .before .before .before .before .args .self .entries) ≡ true
-third c = passed _ _ (c .before .entries-in-range .ensures) (c .if3 .left)
-
-fourth : (c : tie.Else4) → noneShared (c .before .before .before .before .before .before .before .before .args .self .entries) ≡ true
-fourth c = passed _ _ (c .before .none-shared .ensures) (c .if4 .left)
+third : (c : tie.Else3)
+    → entriesInRange (c .before .before .before .before .before .before .args .t1 .entries)
+    && noneShared (c .before .before .before .before .before .before .args .t1 .entries)
+    ≡ true
+third c = passed _ _ (c .before .entries-fit .ensures) (c .if3 .left)
 
 is-placed-requires : tie.Need-is-placed-requires
 is-placed-requires c κs = search needs
 
 returns : tie.Need-returns
-returns c = sym (sound-placed (c .before .before .args .self) (refused _ _ (c .before .is-placed .ensures) (c .if1 .taken)))
+returns c = sym (sound-placed (c .before .before .args .t1) (refused _ _ (c .before .is-placed .ensures) (c .if1 .taken)))
 
 owners-listed-requires : tie.Need-owners-listed-requires
-owners-listed-requires c κs = placed-length (c .before .before .args .self) (first c)
+owners-listed-requires c κs = placed-length (c .before .before .args .t1) (first c)
 
 returns-2 : tie.Need-returns-2
 returns-2 c =
     let k = c .before .before in
-    sym (sound-owners (k .before .before .args .self) (first k) (refused _ _ (c .before .owners-listed .ensures) (c .if2 .taken)))
+    sym (sound-owners (k .before .before .args .t1) (first k) (refused _ _ (c .before .owners-listed .ensures) (c .if2 .taken)))
 
-entries-in-range-requires : tie.Need-entries-in-range-requires
-entries-in-range-requires c κs = search needs
+entries-fit-requires : tie.Need-entries-fit-requires
+entries-fit-requires c κs = search needs
 
 returns-3 : tie.Need-returns-3
 returns-3 c =
     let k = c .before .before in
     let l = k .before .before in
-    sym (sound-entries (l .before .before .args .self) (first l) (second k) (refused _ _ (c .before .entries-in-range .ensures) (c .if3 .taken)))
-
-none-shared-requires : tie.Need-none-shared-requires
-none-shared-requires c κs = third c
-
-returns-4 : tie.Need-returns-4
-returns-4 c =
-    let k = c .before .before in
-    let l = k .before .before in
-    let m = l .before .before in
-    sym (sound-shared (m .before .before .args .self) (first m) (second l) (third k) (refused _ _ (c .before .none-shared .ensures) (c .if4 .taken)))
+    sym (sound-entries (l .before .before .args .t1) (first l) (second k) (refused _ _ (c .before .entries-fit .ensures) (c .if3 .taken)))
 
 unused-owners-zero-requires : tie.Need-unused-owners-zero-requires
 unused-owners-zero-requires c κs =
     let k = c .before .before .before .before .before .before in
-    placed-length (k .before .before .args .self) (first k)
+    length-known (k .before .before .args .t1) (placed-length (k .before .before .args .t1) (first k))
 
-returns-5 : tie.Need-returns-5
-returns-5 c =
+returns-4 : tie.Need-returns-4
+returns-4 c =
     let k = c .before .before .before in
     let l = k .before .before in
     let m = l .before .before in
-    c .unused-owners-zero .ensures ∙ sym (sound-unused (m .before .before .args .self) (first m) (second l) (third k) (fourth (c .before)))
+    c .unused-owners-zero .ensures ∙ sym (sound-unused (m .before .before .args .t1) (first m) (second l) (third k))
 
 pub is-sound-spec : {M : Type 1} → statement M
 is-sound-spec =
@@ -74,9 +64,7 @@ is-sound-spec =
     returns
     owners-listed-requires
     returns-2
-    entries-in-range-requires
+    entries-fit-requires
     returns-3
-    none-shared-requires
-    returns-4
     unused-owners-zero-requires
-    returns-5)
+    returns-4)

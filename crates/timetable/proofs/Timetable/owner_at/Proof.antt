@@ -5,6 +5,7 @@ use mathlib.Core.Path.{_≡_, sym, ap, _∙_}
 use Rattle.slots.specs.Limits.{IDS}
 use Rattle.timetable.proofs.OwnerLaws.{place-fits, owner-before, owner-from}
 use Rattle.timetable.proofs.ScanLaws.{unmapped}
+use Rattle.timetable.proofs.Sound.{ranged-is, sound-from}
 use Rattle.timetable.specs.Owner.{ownerNumber}
 use Rattle.timetable.proofs.Timetable.owner_at.Statement.{statement}
 use Rattle.timetable.proofs.Timetable.owner_at.Tie as tie
@@ -30,7 +31,9 @@ sub-cyclic-owner : tie.Need-sub-cyclic-owner
 sub-cyclic-owner c = search needs
 
 cyclic-owner-requires : tie.Need-cyclic-owner-requires
-cyclic-owner-requires c κs = search needs
+cyclic-owner-requires c κs =
+    let s = c .before .before .before in
+    ranged-is (s .args .t1 .entries) (sound-from (s .args .t1) (s .pre .0) .ranged)
 
 returns-2 : tie.Need-returns-2
 returns-2 c =

@@ -30,8 +30,8 @@ loop-holds c = (omega arith, refl)
 element-copy-out-owner : tie.Need-element-copy-out-owner Inv-loop μ-loop
 element-copy-out-owner c = omega (arith, length-known (c .before .before .args .t1) (c .before .before .pre))
 
-cast-if1 : tie.Need-cast-if1 Inv-loop μ-loop
-cast-if1 c = search needs
+cast-owner : tie.Need-cast-owner Inv-loop μ-loop
+cast-owner c = search needs
 
 returns : tie.Need-returns Inv-loop μ-loop
 unfolding ownersListed
@@ -41,15 +41,21 @@ returns c =
     let k : length (t .entries) ≡ IDS = search (unmapped, needs) in
     scan-stops (ownerTest t) (t .length) (l .n) false (c .before .before .loop-test .taken) (sym (owner-foreign t (l .n) k (c .if1 .taken))) refl
 
-lists-requires : tie.Need-lists-requires Inv-loop μ-loop
-lists-requires c κs = c .if1 .left
+mul-e : tie.Need-mul-e Inv-loop μ-loop
+mul-e c = omega arith
+
+element-copy-out-e : tie.Need-element-copy-out-e Inv-loop μ-loop
+element-copy-out-e c = c .if1 .left
+
+is-listed-requires : tie.Need-is-listed-requires Inv-loop μ-loop
+is-listed-requires c κs = search needs
 
 returns-2 : tie.Need-returns-2 Inv-loop μ-loop
 unfolding ownersListed
 returns-2 c =
-    let k = c .before .before .before .before .before in
+    let k = c .before .before .before .before .before .before in
     let t = k .before .args .t1 in
-    scan-stops (ownerTest t) (t .length) (k .loop .n) _ (c .before .before .before .before .loop-test .taken) (c .before .lists .ensures) (c .if2 .taken)
+    scan-stops (ownerTest t) (t .length) (k .loop .n) _ (c .before .before .before .before .before .loop-test .taken) (c .before .is-listed .ensures) (c .if2 .taken)
 
 add-n : tie.Need-add-n Inv-loop μ-loop
 add-n c = omega arith
@@ -59,8 +65,8 @@ loop-less c = omega arith
 
 loop-again : tie.Need-loop-again Inv-loop μ-loop
 loop-again c =
-    let k = c .before .before .before .before .before in
-    (omega arith, scan-goes (ownerTest (k .before .args .t1)) (k .loop .n) _ (k .loop .inv .1) (c .before .lists .ensures) (c .if2 .left))
+    let k = c .before .before .before .before .before .before in
+    (omega arith, scan-goes (ownerTest (k .before .args .t1)) (k .loop .n) _ (k .loop .inv .1) (c .before .is-listed .ensures) (c .if2 .left))
 
 returns-3 : tie.Need-returns-3 Inv-loop μ-loop
 unfolding ownersListed
@@ -78,9 +84,11 @@ owners-listed-spec =
     cast-size
     loop-holds
     element-copy-out-owner
-    cast-if1
+    cast-owner
     returns
-    lists-requires
+    mul-e
+    element-copy-out-e
+    is-listed-requires
     returns-2
     add-n
     loop-less

@@ -20,7 +20,7 @@ returns-2 c =
     sym (bears-unlisted (a .e) (a .own) (c .before .before .if1 .left) (refused _ _ (c .before .is-listed .ensures) (c .if2 .taken)))
 
 room-requires : tie.Need-room-requires
-room-requires c κs = search needs
+room-requires c κs = c .before .before .before .pre (passed _ _ (c .before .is-listed .ensures) (c .if2 .left))
 
 returns-3 : tie.Need-returns-3
 returns-3 c =

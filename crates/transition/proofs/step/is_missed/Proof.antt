@@ -7,6 +7,7 @@ use Prim.Native.Nat.{_-_, _≤_}
 use Rattle.slots.specs.Below.{every}
 use Rattle.slots.specs.Limits.{IDS}
 use Rattle.timetable.proofs.ScanLaws.{scan-stops, scan-goes, scan-ends}
+use Rattle.timetable.proofs.SoundLaws.{entry-range}
 use Rattle.transition.proofs.StepLaws.{bearsTest, missed-is}
 use Rattle.transition.proofs.step.is_missed.Statement.{statement}
 use Rattle.transition.proofs.step.is_missed.Tie as tie
@@ -28,7 +29,9 @@ array-copy-out-e : tie.Need-array-copy-out-e Inv-loop μ-loop
 array-copy-out-e c = search needs
 
 bears-one-requires : tie.Need-bears-one-requires Inv-loop μ-loop
-bears-one-requires c κs = search needs
+bears-one-requires c κs =
+    let l = c .before .before in
+    entry-range (l .before .args .t1) (l .loop .id) (l .before .pre) (c .before .loop-test .taken)
 
 returns : tie.Need-returns Inv-loop μ-loop
 returns c =

@@ -16,7 +16,7 @@ urgent c =
     urgent-id _ _ _ _ (sym (m .most-urgent .ensures) ∙ c .u .given .1)
 
 most-urgent-requires : tie.Need-most-urgent-requires
-most-urgent-requires c κs = search needs
+most-urgent-requires c κs = c .before .pre .0
 
 enum-known-u : tie.Need-enum-known-u
 enum-known-u c = search needs
