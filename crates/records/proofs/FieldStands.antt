@@ -66,7 +66,7 @@ module _ (s : List ℕ) (at tag : ℕ) (content rest : List ℕ) (e : drop at s 
       ∙ drop-append-seam content rest)
 
 -- A number has as many bytes as it is written with.
-number-length : (v n : ℕ) → length (numberBytes v n) ≡ n
+pub number-length : (v n : ℕ) → length (numberBytes v n) ≡ n
 unfolding numberBytes
 number-length v zero = refl
 number-length v (suc n) = simp length-append (omega (arith, number-length (v / 256) n))

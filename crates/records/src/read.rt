@@ -158,7 +158,7 @@ fn refused_request(refusal: Refusal) -> ReadRequest
 }
 
 // A listing that asks for nothing.
-fn no_asks() -> [Ask; 32]
+fn no_asks() -> [Ask; Timetable::IDS]
     ensures { λ r. ⌜ r ≡ noAsks ⌝ }
 {
     [Ask {
@@ -262,8 +262,8 @@ fn content_at(s: &[u8], at: usize, n: usize) -> u8
     s[at + 3 + n]
 }
 
-// The number that `count` bytes from a place write, big-endian.
-fn number_at(s: &[u8], from: usize, count: usize) -> u64
+// The number that `count` bytes from a place write, big-endian. (Public for the board's image alone.)
+pub fn number_at(s: &[u8], from: usize, count: usize) -> u64
     requires { ⌜ (from + count ≤ length (now s)) × (count ≤ 8) ⌝ }
     ensures { λ r. ⌜ r ≡ numberAt (now (s .entry)) from count ⌝ }
 {

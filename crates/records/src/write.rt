@@ -19,7 +19,12 @@ const OWNERS_TAG: u8 = 0x11;
 const OFFSET_TAG: u8 = 0x12;
 
 // Writes an answer at the start of the area and gives its length. The bytes after it stay as they were.
-pub fn write_answer(area: &mut [u8], size: u8, owners: [u8; 64], entries: [Entry; 32]) -> usize
+pub fn write_answer(
+    area: &mut [u8],
+    size: u8,
+    owners: [u8; Timetable::LONGEST],
+    entries: [Entry; Timetable::IDS],
+) -> usize
     requires { ⌜ (AREA ≤ length (now area)) × (size ≤ LONGEST) ⌝ }
     ensures { λ r. ⌜ (r ≡ length (answerRecord size owners entries)) × (now (area .exit) ≡ answerRecord size owners entries ++ drop (length (answerRecord size owners entries)) (now (area .entry))) ⌝ }
 {
@@ -40,8 +45,8 @@ fn put_head(area: &mut [u8], at: usize, tag: u8, size: u8)
     area[at + 2] = size;
 }
 
-// The owners of a transition, one byte each, and the place after them.
-fn put_owners(area: &mut [u8], from: usize, size: u8, owners: [u8; 64]) -> usize
+// The owners of a transition, one byte each, and the place after them. (Public for the board's image alone.)
+pub fn put_owners(area: &mut [u8], from: usize, size: u8, owners: [u8; Timetable::LONGEST]) -> usize
     requires { ⌜ (from + size ≤ length (now area)) × (size ≤ LONGEST) ⌝ }
     ensures { λ r. ⌜ (r ≡ from + size) × (now (area .exit) ≡ sets (now (area .entry)) from (take size owners)) ⌝ }
 {
@@ -55,7 +60,7 @@ fn put_owners(area: &mut [u8], from: usize, size: u8, owners: [u8; 64]) -> usize
 }
 
 // The offset of each listed partition, ids rising, and the place after them.
-fn put_offsets(area: &mut [u8], from: usize, entries: [Entry; 32]) -> usize
+fn put_offsets(area: &mut [u8], from: usize, entries: [Entry; Timetable::IDS]) -> usize
     requires { ⌜ from + 5 * IDS ≤ length (now area) ⌝ }
     ensures { λ r. ⌜ (r ≡ from + length (offsetFields entries IDS)) × (now (area .exit) ≡ sets (now (area .entry)) from (offsetFields entries IDS)) ⌝ }
 {

@@ -1,0 +1,50 @@
+-- What an image holds, as it is read: the owners one by one, the entries one by one, a number of two bytes, the whole timetable. Assumes nothing.
+use lib.ListN.{drop, getD, length, length-drop, replicate, set, take}
+use lib.Seq.{getD-drop, length-take-le, sets}
+use mathlib.Core.List.{List}
+use mathlib.Core.Path.{_≡_, sym, ap, _∙_}
+use native.Mathlib.Nat.{zero-add}
+use native.Mathlib.Numerals.{add-one}
+use native.Mathlib.Omega.{arith}
+use Prim.Native.Nat.{ℕ, _+_, _*_, _<_}
+use Rattle.board.proofs.StoreLaws.{sets-all}
+use Rattle.board.specs.Image.{IMAGE, entriesAt, entryAt, timetableAt}
+use Rattle.records.proofs.AreaLaws.{owner-next}
+use Rattle.records.specs.Request.{numberAt}
+use Rattle.slots.specs.Clocks.{coreSlot}
+use Rattle.slots.specs.Limits.{IDS, LONGEST}
+use Rattle.timetable.specs.declared.Entry.{Entry}
+use Rattle.timetable.specs.declared.Timetable.{Timetable}
+
+-- A number of two bytes is below 2^16.
+pub short-below : (s : List ℕ) (at : ℕ) → ((i : ℕ) → getD s i 0 < 256) → numberAt s at 2 < 65536
+unfolding numberAt
+short-below s at bytes = omega (arith, bytes (at + 0), bytes (at + 1))
+
+-- One owner more.
+pub owners-next : (image owners : List ℕ) (n : ℕ) → length image ≡ IMAGE → n < LONGEST
+    → owners ≡ sets (replicate LONGEST 0) 0 (take n (drop 9 image))
+    → set owners n (getD image (9 + n) 0) ≡ sets (replicate LONGEST 0) 0 (take (n + 1) (drop 9 image))
+owners-next image owners n len h e =
+    ap (λ (x : List ℕ). set x n (getD image (9 + n) 0)) e
+    ∙ ap (λ (x : ℕ). set (sets (replicate LONGEST 0) 0 (take n (drop 9 image))) n x) (sym (getD-drop 9 image n 0))
+    ∙ rw zero-add at (owner-next (replicate LONGEST 0) (drop 9 image) 0 n (omega (arith, length-drop 9 image)))
+
+-- All owners.
+pub owners-all : (image owners : List ℕ) (n : ℕ) → length image ≡ IMAGE → n ≡ LONGEST
+    → owners ≡ sets (replicate LONGEST 0) 0 (take n (drop 9 image)) → owners ≡ take LONGEST (drop 9 image)
+owners-all image owners n len h e =
+    (rw h at e) ∙ sets-all (replicate LONGEST 0) (take LONGEST (drop 9 image)) (length-take-le LONGEST (drop 9 image) (omega (arith, length-drop 9 image)))
+
+-- One entry more.
+pub entries-held : (image : List ℕ) (es : List Entry) (n : ℕ) (e : Entry) → es ≡ entriesAt image n → e ≡ entryAt image (81 + 6 * n)
+    → set es n e ≡ entriesAt image (n + 1)
+unfolding entriesAt
+entries-held image es n e p q = rw (add-one n, p, q)
+
+-- The fields are the timetable.
+pub held : (image owners : List ℕ) (es : List Entry) (a b : ℕ) → a ≡ numberAt image 0 8 → owners ≡ take LONGEST (drop 9 image) → b ≡ numberAt image 73 8
+    → es ≡ entriesAt image IDS
+    → _≡_ {A = Timetable} (record { request = coreSlot a; length = getD image 8 0; owners = owners; base = coreSlot b; entries = es }) (timetableAt image)
+unfolding timetableAt
+held image owners es a b p q r s = rw (p, q, r, s)

@@ -1,0 +1,5 @@
+pub mod StoreLaws
+pub mod HeldLaws
+pub mod BoardLaws
+pub mod ReadBack
+pub mod KeptImage

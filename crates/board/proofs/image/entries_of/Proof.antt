@@ -1,0 +1,68 @@
+-- The invariant: the entries of the ids below `id` are those of the image. Assumes nothing.
+use mathlib.Core.Path.{_≡_, refl}
+use native.Mathlib.Omega.{arith}
+use Prim.Native.Nat.{_-_, _≤_}
+use Rattle.board.proofs.HeldLaws.{entries-held}
+use Rattle.board.specs.Image.{entriesAt}
+use Rattle.slots.specs.Limits.{IDS}
+use Rattle.board.proofs.image.entries_of.Statement.{statement}
+use Rattle.board.proofs.image.entries_of.Tie as tie
+
+abbrev Inv-loop : tie.InvT-loop
+Inv-loop image entries₀ id₀ entries id = (id ≤ IDS) × (entries ≡ entriesAt image id)
+
+abbrev μ-loop : tie.MeasureT-loop
+μ-loop image entries₀ id₀ entries id = IDS - id
+
+loop-holds : tie.Need-loop-holds Inv-loop μ-loop
+unfolding entriesAt
+loop-holds c = (omega arith, refl)
+
+mul-entry-of : tie.Need-mul-entry-of Inv-loop μ-loop
+mul-entry-of c = omega arith
+
+add-entry-of : tie.Need-add-entry-of Inv-loop μ-loop
+add-entry-of c = omega arith
+
+entry-of-requires : tie.Need-entry-of-requires Inv-loop μ-loop
+entry-of-requires c κs = omega arith
+
+mul-entries : tie.Need-mul-entries Inv-loop μ-loop
+mul-entries c = omega arith
+
+array-set-from-entries : tie.Need-array-set-from-entries Inv-loop μ-loop
+array-set-from-entries c = omega arith
+
+add-id : tie.Need-add-id Inv-loop μ-loop
+add-id c = omega arith
+
+loop-less : tie.Need-loop-less Inv-loop μ-loop
+loop-less c = omega arith
+
+loop-again : tie.Need-loop-again Inv-loop μ-loop
+loop-again c =
+    let l = c .before .before .loop in
+    let a = c .before .before .before .before .args in
+    (omega arith, entries-held (a .image .now) (l .entries) (l .id) (c .entry-of .result) (l .inv .1) (c .entry-of .ensures))
+
+returns : tie.Need-returns Inv-loop μ-loop
+returns c =
+    let n : c .before .loop .id ≡ IDS = omega arith in
+    rw n at (c .before .loop .inv .1)
+
+pub entries-of-spec : {M : Type 1} → statement M
+entries-of-spec =
+    tie.close
+    (tie.spec
+    Inv-loop
+    μ-loop
+    loop-holds
+    mul-entry-of
+    add-entry-of
+    entry-of-requires
+    mul-entries
+    array-set-from-entries
+    add-id
+    loop-less
+    loop-again
+    returns)

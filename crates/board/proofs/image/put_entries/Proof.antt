@@ -1,0 +1,75 @@
+-- The invariant: the entries of the ids below `id` are stored from byte 81 on. Assumes nothing.
+use lib.ListN.{length}
+use lib.Seq.{sets}
+use mathlib.Core.Path.{_≡_, refl, _∙_}
+use native.Mathlib.Omega.{arith}
+use Prim.Native.Nat.{_-_, _≤_}
+use Rattle.board.proofs.StoreLaws.{entries-next}
+use Rattle.board.specs.Image.{entriesBytes}
+use Rattle.slots.specs.Limits.{IDS}
+use Rattle.board.proofs.image.put_entries.Statement.{statement}
+use Rattle.board.proofs.image.put_entries.Tie as tie
+
+abbrev Inv-loop : tie.InvT-loop
+Inv-loop image₀ entries id₀ image id = (id ≤ IDS) × (length image ≡ length image₀) × (image ≡ sets image₀ 81 (entriesBytes entries id))
+
+abbrev μ-loop : tie.MeasureT-loop
+μ-loop image₀ entries id₀ image id = IDS - id
+
+loop-holds : tie.Need-loop-holds Inv-loop μ-loop
+unfolding entriesBytes
+loop-holds c = (omega arith, refl, refl)
+
+mul-e : tie.Need-mul-e Inv-loop μ-loop
+mul-e c = omega arith
+
+array-copy-out-e : tie.Need-array-copy-out-e Inv-loop μ-loop
+array-copy-out-e c = omega arith
+
+mul-put-entry : tie.Need-mul-put-entry Inv-loop μ-loop
+mul-put-entry c = omega arith
+
+add-put-entry : tie.Need-add-put-entry Inv-loop μ-loop
+add-put-entry c = omega arith
+
+put-entry-requires : tie.Need-put-entry-requires Inv-loop μ-loop
+put-entry-requires c κs = omega arith
+
+add-id : tie.Need-add-id Inv-loop μ-loop
+add-id c = omega arith
+
+loop-less : tie.Need-loop-less Inv-loop μ-loop
+loop-less c = omega arith
+
+loop-again : tie.Need-loop-again Inv-loop μ-loop
+loop-again c =
+    let p = c .before .before .put-entry in
+    let l = c .before .before .before .before .before .before .loop in
+    let s = c .before .before .before .before .before .before .before .before in
+    (omega arith, p .kept .0 ∙ l .inv .1, entries-next (s .args .image .now) (l .image) (p .last .0) (s .args .t2) (l .id) (l .inv .2) (p .ensures))
+
+same-length : tie.Need-same-length Inv-loop μ-loop
+same-length c = c .before .loop .inv .1
+
+returns : tie.Need-returns Inv-loop μ-loop
+returns c =
+    let n : c .before .loop .id ≡ IDS = omega arith in
+    rw n at (c .before .loop .inv .2)
+
+pub put-entries-spec : {M : Type 1} → statement M
+put-entries-spec =
+    tie.close
+    (tie.spec
+    Inv-loop
+    μ-loop
+    loop-holds
+    mul-e
+    array-copy-out-e
+    mul-put-entry
+    add-put-entry
+    put-entry-requires
+    add-id
+    loop-less
+    loop-again
+    same-length
+    returns)

@@ -1,0 +1,66 @@
+-- The fields are stored one behind the other, and no store changes the image's length. Assumes nothing.
+use borrow.Author.Needs.{needs}
+use lib.ListN.{length, length-set}
+use mathlib.Core.Path.{_≡_, _∙_}
+use native.Mathlib.Omega.{arith}
+use Rattle.board.proofs.StoreLaws.{image-stored}
+use Rattle.slots.specs.Limits.{LONGEST}
+use Rattle.board.proofs.image.put_image.Statement.{statement}
+use Rattle.board.proofs.image.put_image.Tie as tie
+
+-- A timetable has 64 owners.
+owners-count : (c : tie.Start) → length (c .args .t .owners) ≡ LONGEST
+owners-count c = search needs
+
+-- The image keeps its length up to the owners,
+owners-put : (c : tie.After-put-owners) → length (c .put-owners .last .0) ≡ length (c .before .before .before .before .before .before .before .before .before .args .image .now)
+owners-put c = c .put-owners .kept .0 ∙ simp length-set (c .before .before .before .before .put-number .kept .0)
+
+-- and up to the base.
+base-put : (c : tie.After-put-number2) → length (c .put-number2 .last .0) ≡ length (c .before .before .before .before .before .before .before .before .before .before .before .before .before .args .image .now)
+base-put c = c .put-number2 .kept .0 ∙ owners-put (c .before .before .before .before)
+
+put-number-requires : tie.Need-put-number-requires
+put-number-requires c κs = search needs
+
+slice-write-image : tie.Need-slice-write-image
+slice-write-image c = search needs
+
+put-owners-requires : tie.Need-put-owners-requires
+put-owners-requires c κs = simp length-set (omega arith)
+
+put-number-requires-2 : tie.Need-put-number-requires-2
+put-number-requires-2 c κs = omega (arith, owners-put (c .before .before .before), c .before .before .before .before .before .before .before .before .before .before .before .before .pre)
+
+put-entries-requires : tie.Need-put-entries-requires
+put-entries-requires c κs =
+    let s = c .before .before .before .before .before .before .before .before .before .before .before .before .before .before .before .before in
+    base-put (c .before .before .before) ∙ s .pre
+
+same-length : tie.Need-same-length
+same-length c = c .before .before .put-entries .kept .0 ∙ base-put (c .before .before .before .before .before .before)
+
+returns : tie.Need-returns
+returns c =
+    let base = c .before .before .before .before .before .before in
+    let owners = base .before .before .before .before in
+    let request = owners .before .before .before .before in
+    let s = request .before .before .before .before .before in
+    image-stored (s .args .t) (owners-count s) (s .args .image .now) (request .put-number .last .0) (owners .put-owners .last .0) (base .put-number2 .last .0) (c .before .before .put-entries .last .0)
+    (s .pre)
+    (request .put-number .ensures)
+    (owners .put-owners .ensures .1)
+    (base .put-number2 .ensures)
+    (c .before .before .put-entries .ensures)
+
+pub put-image-spec : {M : Type 1} → statement M
+put-image-spec =
+    tie.close
+    (tie.spec
+    put-number-requires
+    slice-write-image
+    put-owners-requires
+    put-number-requires-2
+    put-entries-requires
+    same-length
+    returns)

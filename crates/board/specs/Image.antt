@@ -1,0 +1,133 @@
+-- A timetable as a C program keeps it: an image of 273 bytes, the fields in document 01's order, numbers high byte first.
+use lib.Dec.{eqb}
+use lib.ListN.{drop, getD, length, replicate, set, take}
+use mathlib.Core.Bool.{Bool, cond}
+use mathlib.Core.List.{List, [], _∷_, _++_}
+use mathlib.Core.Path.{_≡_}
+use Prim.Native.Nat.{ℕ, zero, suc, _+_, _*_, _^_, _<_}
+use Rattle.change.specs.Change.{Answer, answer, refuse, written}
+use Rattle.change.specs.Controller.{Sent}
+use Rattle.change.specs.declared.OwnerAnswer.{OwnerAnswer}
+use Rattle.change.specs.declared.StandingAnswer.{StandingAnswer}
+use Rattle.change.specs.Queries.{ownerQuery, refuseOwner, refuseStanding, standingQuery}
+use Rattle.records.specs.Numbers.{ACCEPTED, NOT-SOUND}
+use Rattle.records.specs.Request.{numberAt, refusal}
+use Rattle.records.specs.Written.{numberBytes}
+use Rattle.slots.specs.Clocks.{coreSlot}
+use Rattle.slots.specs.Limits.{IDS, LONGEST}
+use Rattle.timetable.specs.declared.Entry.{Entry}
+use Rattle.timetable.specs.declared.Timetable.{Timetable}
+use Rattle.timetable.specs.Timetable.{emptyTimetable, entryOf, noEntry}
+
+-- An image has this many bytes.
+abbrev pub IMAGE : ℕ
+IMAGE = 273
+
+-- Whether bytes are an image, by their number.
+abbrev pub isImage : List ℕ → Bool
+isImage image = eqb (length image) IMAGE
+
+-- The entry that the six bytes from a place hold: period (2), offset, bound, shortfall (2).
+abbrev pub entryAt : List ℕ → ℕ → Entry
+entryAt image at = record {
+  period = numberAt image at 2;
+  offset = getD image (at + 2) 0;
+  bound = getD image (at + 3) 0;
+  shortfall = numberAt image (at + 4) 2;
+}
+
+-- The entries of the ids below n, from byte 81 on; the others not listed.
+unfoldable pub entriesAt : List ℕ → ℕ → List Entry
+entriesAt image zero = replicate IDS noEntry
+entriesAt image (suc n) = set (entriesAt image n) n (entryAt image (81 + 6 * n))
+
+-- The timetable that an image holds: request slot (8), length, owners (64), base (8), entries.
+unfoldable pub timetableAt : List ℕ → Timetable
+timetableAt image = record {
+  request = coreSlot (numberAt image 0 8);
+  length = getD image 8 0;
+  owners = take LONGEST (drop 9 image);
+  base = coreSlot (numberAt image 73 8);
+  entries = entriesAt image IDS;
+}
+
+-- The six bytes of an entry.
+unfoldable pub entryBytes : Entry → List ℕ
+entryBytes e = numberBytes (e .period) 2 ++ (e .offset ∷ e .bound ∷ numberBytes (e .shortfall) 2)
+
+-- The bytes of the entries of the ids below n.
+unfoldable pub entriesBytes : List Entry → ℕ → List ℕ
+entriesBytes entries zero = []
+entriesBytes entries (suc n) = entriesBytes entries n ++ entryBytes (entryOf entries n)
+
+-- The image of a timetable.
+unfoldable pub imageOf : Timetable → List ℕ
+imageOf t =
+    numberBytes (t .request .0) 8 ++ (t .length ∷ []) ++ t .owners ++ numberBytes (t .base .0) 8 ++ entriesBytes (t .entries) IDS
+
+-- Making the image of the empty timetable: bytes that are no image are refused as not sound.
+unfoldable pub emptyNumber : List ℕ → ℕ
+emptyNumber image = cond (isImage image) ACCEPTED NOT-SOUND
+
+-- The image after that.
+unfoldable pub emptyImage : List ℕ → List ℕ
+emptyImage image = cond (isImage image) (imageOf emptyTimetable) image
+
+-- What a request gets on an image, with an answer area of a given size. Bytes that are no image are no sound timetable.
+unfoldable pub imageAnswer : List ℕ → List ℕ → ℕ → Answer
+imageAnswer image request area =
+    cond (isImage image) (answer (timetableAt image) request area) (refuse (timetableAt image) (refusal NOT-SOUND 0))
+
+-- The image after a request: that of the new timetable, or, where the request is refused, every byte as it was.
+unfoldable pub imageAfter : List ℕ → List ℕ → ℕ → List ℕ
+imageAfter image request area =
+    cond (eqb (imageAnswer image request area .number) ACCEPTED) (imageOf (imageAnswer image request area .timetable)) image
+
+-- The answer area after a request.
+unfoldable pub areaAfterImage : List ℕ → List ℕ → List ℕ → List ℕ
+areaAfterImage image request area = written (imageAnswer image request (length area)) area
+
+-- What a request returns and leaves.
+pub record Changed (image request area : List ℕ) (number place tries written : ℕ) (image-left area-left : List ℕ) : Type 0 where
+  pub number-told : number ≡ imageAnswer image request (length area) .number
+  pub place-told : place ≡ imageAnswer image request (length area) .place
+  pub tries-told : tries ≡ imageAnswer image request (length area) .tries
+  pub written-told : written ≡ length (imageAnswer image request (length area) .bytes)
+  pub image-after : image-left ≡ imageAfter image request (length area)
+  pub area-after : area-left ≡ areaAfterImage image request area
+
+-- The owner query on an image.
+unfoldable pub imageOwner : List ℕ → ℕ → OwnerAnswer
+imageOwner image slot = cond (isImage image) (ownerQuery (timetableAt image) (coreSlot slot)) (refuseOwner NOT-SOUND)
+
+-- What the owner query returns.
+pub record OwnerTold (answer : OwnerAnswer) (number place owner : ℕ) : Type 0 where
+  pub number-told : number ≡ answer .number
+  pub place-told : place ≡ answer .place
+  pub owner-told : owner ≡ answer .owner
+
+-- The standing query on an image.
+unfoldable pub imageStanding : List ℕ → ℕ → ℕ → StandingAnswer
+imageStanding image id slot =
+    cond (isImage image) (standingQuery (timetableAt image) id (coreSlot slot)) (refuseStanding NOT-SOUND)
+
+-- What the standing query returns.
+pub record StandingTold (answer : StandingAnswer) (number place shortfall slices : ℕ) : Type 0 where
+  pub number-told : number ≡ answer .number
+  pub place-told : place ≡ answer .place
+  pub shortfall-told : shortfall ≡ answer .shortfall
+  pub slices-told : slices ≡ answer .slices .0
+
+-- A timetable whose arrays have their lengths and whose numbers fit their bytes, as every timetable of the code does.
+pub record Fits (t : Timetable) : Type 0 where
+  pub owners : length (t .owners) ≡ LONGEST
+  pub entries : length (t .entries) ≡ IDS
+  pub request : t .request .0 < 2 ^ 64
+  pub base : t .base .0 < 2 ^ 64
+  pub period : (i : ℕ) → i < IDS → entryOf (t .entries) i .period < 2 ^ 16
+  pub shortfall : (i : ℕ) → i < IDS → entryOf (t .entries) i .shortfall < 2 ^ 16
+
+-- The image that a C program keeps, from that of the empty timetable on, after any requests, the last request first.
+unfoldable pub keptImage : List Sent → List ℕ
+keptImage [] = imageOf emptyTimetable
+keptImage (q ∷ qs) = imageAfter (keptImage qs) (q .bytes) (q .area)

@@ -1,0 +1,152 @@
+// The image of a timetable: the fields in document 01's order, numbers high byte first. Nothing here is refused.
+ghost use lib.ListN.{drop, length, take};
+ghost use lib.Seq.{sets};
+ghost use mathlib.Core.Path.{_≡_};
+ghost use Prim.Native.Nat.{_+_, _≤_};
+ghost use Rattle.board.specs.Image.{IMAGE, entriesAt, entriesBytes, entryAt, entryBytes, imageOf, timetableAt};
+ghost use Rattle.records.specs.Request.{numberAt};
+ghost use Rattle.records.specs.Written.{numberBytes};
+ghost use Rattle.slots.specs.Limits.{IDS, LONGEST};
+use records::read::number_at;
+use records::write::put_owners;
+use slots::CoreSlot;
+use timetable::Entry;
+use timetable::Timetable;
+
+// The place of the transition's length.
+const LENGTH_AT: usize = 8;
+
+// The place of its owners.
+const OWNERS_AT: usize = 9;
+
+// The place of the base.
+const BASE_AT: usize = 73;
+
+// The place of the entries.
+const ENTRIES_AT: usize = 81;
+
+// An entry has this many bytes.
+const ENTRY: usize = 6;
+
+// The timetable that an image holds.
+pub fn timetable_of(image: &[u8]) -> Timetable
+    requires { ⌜ length (now image) ≡ IMAGE ⌝ }
+    ensures { λ r. ⌜ r ≡ timetableAt (now (image .entry)) ⌝ }
+{
+    let owners = owners_of(image);
+    let entries = entries_of(image);
+    Timetable {
+        request: CoreSlot(number_at(image, 0, 8)),
+        length: image[LENGTH_AT],
+        owners,
+        base: CoreSlot(number_at(image, BASE_AT, 8)),
+        entries,
+    }
+}
+
+// The owners that an image holds.
+fn owners_of(image: &[u8]) -> [u8; Timetable::LONGEST]
+    requires { ⌜ length (now image) ≡ IMAGE ⌝ }
+    ensures { λ r. ⌜ r ≡ take LONGEST (drop 9 (now (image .entry))) ⌝ }
+{
+    let mut owners = [0; Timetable::LONGEST];
+    let mut n: usize = 0;
+    while n < Timetable::LONGEST {
+        owners[n] = image[OWNERS_AT + n];
+        n += 1;
+    }
+    owners
+}
+
+// The entries that an image holds.
+fn entries_of(image: &[u8]) -> [Entry; Timetable::IDS]
+    requires { ⌜ length (now image) ≡ IMAGE ⌝ }
+    ensures { λ r. ⌜ r ≡ entriesAt (now (image .entry)) IDS ⌝ }
+{
+    let none = Entry {
+        period: 0,
+        offset: 0,
+        bound: 0,
+        shortfall: 0,
+    };
+    let mut entries = [none; Timetable::IDS];
+    let mut id: usize = 0;
+    while id < Timetable::IDS {
+        entries[id] = entry_of(image, ENTRIES_AT + ENTRY * id);
+        id += 1;
+    }
+    entries
+}
+
+// The entry that the six bytes from a place hold.
+fn entry_of(image: &[u8], at: usize) -> Entry
+    requires { ⌜ at + 6 ≤ length (now image) ⌝ }
+    ensures { λ r. ⌜ r ≡ entryAt (now (image .entry)) at ⌝ }
+{
+    Entry {
+        period: short_at(image, at),
+        offset: image[at + 2],
+        bound: image[at + 3],
+        shortfall: short_at(image, at + 4),
+    }
+}
+
+// The number that two bytes from a place write.
+fn short_at(image: &[u8], at: usize) -> u16
+    requires { ⌜ at + 2 ≤ length (now image) ⌝ }
+    ensures { λ r. ⌜ r ≡ numberAt (now (image .entry)) at 2 ⌝ }
+{
+    number_at(image, at, 2) as u16
+}
+
+// Writes the image of a timetable.
+pub fn put_image(image: &mut [u8], t: Timetable)
+    requires { ⌜ length (now image) ≡ IMAGE ⌝ }
+    ensures { λ _. ⌜ now (image .exit) ≡ imageOf t ⌝ }
+{
+    let owners = t.owners;
+    let entries = t.entries;
+    put_number(image, 0, 8, t.request.0);
+    image[LENGTH_AT] = t.length;
+    put_owners(image, OWNERS_AT, 64, owners);
+    put_number(image, BASE_AT, 8, t.base.0);
+    put_entries(image, entries);
+}
+
+// Writes the entries, one behind the other.
+fn put_entries(image: &mut [u8], entries: [Entry; Timetable::IDS])
+    requires { ⌜ length (now image) ≡ IMAGE ⌝ }
+    ensures { λ _. ⌜ now (image .exit) ≡ sets (now (image .entry)) 81 (entriesBytes entries IDS) ⌝ }
+{
+    let mut id: usize = 0;
+    while id < Timetable::IDS {
+        let e = entries[id];
+        put_entry(image, ENTRIES_AT + ENTRY * id, e);
+        id += 1;
+    }
+}
+
+// Writes the six bytes of an entry.
+fn put_entry(image: &mut [u8], at: usize, e: Entry)
+    requires { ⌜ at + 6 ≤ length (now image) ⌝ }
+    ensures { λ _. ⌜ now (image .exit) ≡ sets (now (image .entry)) at (entryBytes e) ⌝ }
+{
+    put_number(image, at, 2, e.period as u64);
+    image[at + 2] = e.offset;
+    image[at + 3] = e.bound;
+    put_number(image, at + 4, 2, e.shortfall as u64);
+}
+
+// Writes the last `width` bytes of a number, high byte first.
+fn put_number(image: &mut [u8], at: usize, width: usize, number: u64)
+    requires { ⌜ at + width ≤ length (now image) ⌝ }
+    ensures { λ _. ⌜ now (image .exit) ≡ sets (now (image .entry)) at (numberBytes number width) ⌝ }
+{
+    let mut left = width;
+    let mut rest = number;
+    while 0 < left {
+        left -= 1;
+        image[at + left] = (rest % 256) as u8;
+        rest /= 256;
+    }
+}
