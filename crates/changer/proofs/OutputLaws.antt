@@ -5,7 +5,8 @@ use mathlib.Core.Path.{_≡_, refl}
 use Prim.Native.Nat.{ℕ}
 use Rattle.change.specs.Change.{answer, outcome}
 use Rattle.change.specs.declared.Outcome.{Outcome}
-use Rattle.changer.specs.Places.{lengthOf, lineAt}
+use Rattle.changer.specs.Answers.{lengthOf}
+use Rattle.frames.specs.Buffers.{lineAt}
 use Rattle.frames.specs.Coded.{Puts}
 use Rattle.frames.specs.Program.{answeredLength, line, lineOf}
 use Rattle.slots.specs.Limits.{AREA}

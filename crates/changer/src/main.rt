@@ -1,33 +1,23 @@
 // The program: frames of requests from standard input, a line for each to standard output, in bounded memory. A bad frame ends it.
 use change::Outcome;
 use frames::HEADER;
-use frames::Head;
-use frames::LINE_ROOM;
-use libc::STDIN_FILENO;
-use libc::STDOUT_FILENO;
+use frames::stream;
+use frames::stream::Next;
+use frames::stream::Places;
 use records::Refusal;
 use timetable::Timetable;
 ghost use lib.ListN.{drop, length, take};
 ghost use mathlib.Core.Path.{_≡_};
 ghost use Prim.Native.Nat.{_+_, _≤_};
-ghost use Rattle.changer.specs.Places.{Answered, Inside, Stands, lengthOf, lineAt, unread};
+ghost use Rattle.changer.specs.Answers.{Answered, lengthOf};
+ghost use Rattle.frames.specs.Buffers.{Inside};
 ghost use Rattle.frames.specs.Coded.{LINE-ROOM};
 
-// The timetable in force; the input read and not yet answered, from `from` up to `to`; the output that waits, up to `put`; the next request's ordinal; and whether to go on.
-struct Stream {
+// The timetable in force, the next request's ordinal, and where the program stands in its buffers.
+struct Controller {
     timetable: Timetable,
-    from: usize,
-    to: usize,
-    put: usize,
     ordinal: u64,
-    open: bool,
-}
-
-// What stands next in the input: a whole frame with that much content, a part of one, or none.
-enum Next {
-    Frame(usize),
-    Part,
-    Bad,
+    places: Places,
 }
 
 fn main() {
@@ -42,70 +32,60 @@ fn run(input: &mut [u8], out: &mut [u8])
 {
     let mut s = start();
     let mut turns = u64::MAX;
-    while turns > 0 && s.open {
+    while turns > 0 && s.places.open {
         turns -= 1;
         s = turn(s, input, out);
     }
-    flush(out, s.put);
+    stream::flush(out, s.places.put);
 }
 
 // Nothing read, nothing printed, and the empty timetable.
-fn start() -> Stream
-    ensures { λ r. ⌜ (r .from ≡ 0) × (r .to ≡ 0) × (r .put ≡ 0) ⌝ }
+fn start() -> Controller
+    ensures { λ r. ⌜ (r .places .from ≡ 0) × (r .places .to ≡ 0) × (r .places .put ≡ 0) ⌝ }
 {
     let t = Timetable::empty();
-    Stream {
+    let p = stream::start();
+    Controller {
         timetable: t,
-        from: 0,
-        to: 0,
-        put: 0,
         ordinal: 1,
-        open: true,
+        places: p,
     }
 }
 
 // One turn: a whole frame is answered, a part of one waits for more input, and anything else ends it.
-fn turn(s: Stream, input: &mut [u8], out: &mut [u8]) -> Stream
-    requires { ⌜ Inside s (length (now input)) (length (now out)) ⌝ }
-    ensures { λ r. ⌜ Inside r (length (now (input .entry))) (length (now (out .entry))) ⌝ }
+fn turn(s: Controller, input: &mut [u8], out: &mut [u8]) -> Controller
+    requires { ⌜ Inside (s .places) (length (now input)) (length (now out)) ⌝ }
+    ensures { λ r. ⌜ Inside (r .places) (length (now (input .entry))) (length (now (out .entry))) ⌝ }
 {
-    let from = s.from;
-    let to = s.to;
-    match ahead(input, from, to) {
+    let p = s.places;
+    match stream::ahead(input, p.from, p.to) {
         Next::Frame(size) => answered(s, input, size, out),
-        Next::Part => filled(s, input, out),
-        Next::Bad => ended(s, out),
+        Next::Part => moved(s, stream::filled(p, input, out)),
+        Next::Bad => moved(s, stream::ended(p, out)),
     }
 }
 
-// What stands between two places of the input.
-fn ahead(input: &[u8], from: usize, to: usize) -> Next
-    requires { ⌜ (from ≤ to) × (to ≤ length (now input)) ⌝ }
-    ensures { λ r. ⌜ Stands r (unread (now (input .entry)) from to) ⌝ }
+// The same timetable and ordinal, at other places.
+fn moved(s: Controller, places: Places) -> Controller
+    ensures { λ r. ⌜ (r .timetable ≡ s .timetable) × (r .ordinal ≡ s .ordinal) × (r .places ≡ places) ⌝ }
 {
-    if to - from < HEADER {
-        return Next::Part;
-    }
-    match frames::frame_head(input[from], input[from + 1], input[from + 2]) {
-        Head::Content(size) => {
-            if size <= to - from - HEADER {
-                Next::Frame(size)
-            } else {
-                Next::Part
-            }
-        }
-        Head::Bad => Next::Bad,
+    let t = s.timetable;
+    Controller {
+        timetable: t,
+        ordinal: s.ordinal,
+        places,
     }
 }
 
 // The request in the frame ahead is answered, and its line put into the output.
-fn answered(s: Stream, input: &[u8], size: usize, out: &mut [u8]) -> Stream
-    requires { ⌜ Inside s (length (now input)) (length (now out)) × (s .from + 3 + size ≤ s .to) ⌝ }
-    ensures { λ r. ⌜ Inside r (length (now (input .entry))) (length (now (out .entry))) ⌝ }
-    ensures { λ r. ⌜ Answered s (take size (drop (s .from + 3) (now (input .entry)))) (now (out .entry)) (now (out .exit)) r ⌝ }
+fn answered(s: Controller, input: &[u8], size: usize, out: &mut [u8]) -> Controller
+    requires { ⌜ Inside (s .places) (length (now input)) (length (now out)) × (s .places .from + 3 + size ≤ s .places .to) ⌝ }
+    ensures { λ r. ⌜ Inside (r .places) (length (now (input .entry))) (length (now (out .entry))) ⌝ }
+    ensures { λ r. ⌜ Answered s (take size (drop (s .places .from + 3) (now (input .entry)))) (now (out .entry)) (now (out .exit)) r ⌝ }
 {
-    let put = room(out, s.put);
-    let content = s.from + HEADER;
+    let p = s.places;
+    let put = stream::room(out, p.put);
+    let content = p.from + HEADER;
     let end = content + size;
     let t = s.timetable;
     let mut area = [0u8; Timetable::AREA];
@@ -120,13 +100,16 @@ fn answered(s: Stream, input: &[u8], size: usize, out: &mut [u8]) -> Stream
         length_of(o),
     );
     let now = o.timetable;
-    Stream {
-        timetable: now,
+    let places = Places {
         from: end,
-        to: s.to,
+        to: p.to,
         put: next,
-        ordinal: after(s.ordinal),
         open: true,
+    };
+    Controller {
+        timetable: now,
+        ordinal: after(s.ordinal),
+        places,
     }
 }
 
@@ -148,73 +131,4 @@ fn after(ordinal: u64) -> u64 {
     } else {
         ordinal
     }
-}
-
-// What waits is printed, the part of a frame moves to the front, and more input is read behind it. At the input's end such a part is a bad frame.
-fn filled(s: Stream, input: &mut [u8], out: &mut [u8]) -> Stream
-    requires { ⌜ Inside s (length (now input)) (length (now out)) ⌝ }
-    ensures { λ r. ⌜ Inside r (length (now (input .entry))) (length (now (out .entry))) ⌝ }
-{
-    flush(out, s.put);
-    let kept = frames::keep_rest(input, s.from, s.to);
-    let to = read_behind(input, kept);
-    let t = s.timetable;
-    let more = Stream {
-        timetable: t,
-        from: 0,
-        to,
-        put: 0,
-        ordinal: s.ordinal,
-        open: kept < to,
-    };
-    if 0 < kept && kept == to {
-        return ended(more, out);
-    }
-    more
-}
-
-// Reads once behind the bytes that stand in the buffer, and tells how many stand there then. A read that fails ends the input.
-fn read_behind(input: &mut [u8], kept: usize) -> usize
-    requires { ⌜ kept ≤ length (now input) ⌝ }
-    ensures { λ r. ⌜ (kept ≤ r) × (r ≤ length (now (input .entry))) ⌝ }
-{
-    let got = libc::read(STDIN_FILENO, &mut input[kept..]);
-    kept + io::count(got, &input[kept..])
-}
-
-// `bad frame` is put into the output, and nothing follows it.
-fn ended(s: Stream, out: &mut [u8]) -> Stream
-    requires { ⌜ (s .put ≤ length (now out)) × (LINE-ROOM ≤ length (now out)) ⌝ }
-    ensures { λ r. ⌜ (r .from ≡ s .from) × (r .to ≡ s .to) × (r .put ≤ length (now (out .entry))) ⌝ }
-{
-    let put = room(out, s.put);
-    let end = frames::write_bad_frame(out, put);
-    let t = s.timetable;
-    Stream {
-        timetable: t,
-        from: s.from,
-        to: s.to,
-        put: end,
-        ordinal: s.ordinal,
-        open: false,
-    }
-}
-
-// Where a line can be put: behind what waits, or at the front once that is printed.
-fn room(out: &[u8], put: usize) -> usize
-    requires { ⌜ (put ≤ length (now out)) × (LINE-ROOM ≤ length (now out)) ⌝ }
-    ensures { λ r. ⌜ (r + LINE-ROOM ≤ length (now (out .entry))) × (r ≡ lineAt put (length (now (out .entry)))) ⌝ }
-{
-    if LINE_ROOM <= out.len() - put {
-        return put;
-    }
-    flush(out, put);
-    0
-}
-
-// Prints what waits in the output. What cannot be written is lost.
-fn flush(out: &[u8], put: usize)
-    requires { ⌜ put ≤ length (now out) ⌝ }
-{
-    io::write_all(STDOUT_FILENO, &out[..put]);
 }

@@ -1,10 +1,12 @@
-// The frames that the program reads and the lines that it prints, over buffers that the caller keeps. A frame with another tag or a content above 4,096 bytes is refused.
+// The frames that a program reads and the lines that it prints, over buffers that the caller keeps. A frame with another tag or a content above 4,096 bytes is refused.
 ghost use lib.ListN.{drop, length, take};
 ghost use mathlib.Core.List.{[], _∷_, _++_};
 ghost use mathlib.Core.Path.{_≡_};
 ghost use Prim.Native.Nat.{_+_, _-_, _≤_};
 ghost use Rattle.frames.specs.Coded.{LINE-ROOM, NUMBER-ROOM, Puts, headOf};
 ghost use Rattle.frames.specs.Program.{badFrame, decimal as Program·decimal, lineOf};
+
+pub mod stream; // stream.rt: a program's two buffers
 
 // A frame begins with this byte.
 pub const FRAME_TAG: u8 = 0x40;

@@ -53,16 +53,22 @@ returns c =
     let n = w .before in
     let g = n .before .before .before in
     let m = g .before .before .before .before .before in
-    let a = m .before .before .before .before .args in
-    let request = take (a .size) (drop (a .s .from + 3) (a .input .now)) in
-    let d : a .s .from + 3 + a .size - (a .s .from + 3) ≡ a .size = omega arith in
+    let start = m .before .before .before .before .before in
+    let a = start .args in
+    let request = take (a .size) (drop (a .s .places .from + 3) (a .input .now)) in
+    let d : a .s .places .from + 3 + a .size - (a .s .places .from + 3) ≡ a .size = omega arith in
     let returned : g .change .result ≡ outcome (a .s .timetable) request (replicate AREA 0) = rw d at (g .change .ensures .0) in (
-      search needs,
+      record {
+        unread = start .pre .1;
+        read = start .pre .0 .read;
+        waiting = omega (arith, w .write-line .ensures .1, m .room .ensures .0);
+        room = start .pre .0 .room;
+      },
       record {
         timetable = same-timetable (a .s .timetable) request (replicate AREA 0) (g .change .result) refl returned;
         put =
             put-answer (a .s .timetable) request (replicate AREA 0) (g .change .result) refl returned
-            (a .out .now) (w .write-line .last .0) (m .room .result) (a .s .put) (a .s .ordinal) (n .length-of .result) (w .write-line .result)
+            (a .out .now) (w .write-line .last .0) (m .room .result) (a .s .places .put) (a .s .ordinal) (n .length-of .result) (w .write-line .result)
             (m .room .ensures .1) (n .length-of .ensures) (w .write-line .ensures .0);
       },
     )

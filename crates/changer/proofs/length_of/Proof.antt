@@ -1,7 +1,7 @@
 -- `changer::length_of` meets its contract: its test is that of `lengthOf`.
 -- Assumes nothing.
 use borrow.Author.Tests.{eq-eqb, ne-eqb}
-use Rattle.changer.specs.Places.{lengthOf}
+use Rattle.changer.specs.Answers.{lengthOf}
 use Rattle.changer.proofs.length_of.Statement.{statement}
 use Rattle.changer.proofs.length_of.Tie as tie
 

@@ -3,12 +3,12 @@
 use borrow.Author.Needs.{needs}
 use lib.ListN.{length}
 use mathlib.Core.Path.{_≡_}
-use Rattle.changer.specs.Places.{Inside}
+use Rattle.frames.specs.Buffers.{Inside}
 use Rattle.changer.proofs.run.Statement.{statement}
 use Rattle.changer.proofs.run.Tie as tie
 
 abbrev Inv-loop : tie.InvT-loop
-Inv-loop input₀ out₀ s₀ turns₀ input out s turns = Inside s (length input) (length out) × (length input ≡ length input₀) × (length out ≡ length out₀)
+Inv-loop input₀ out₀ s₀ turns₀ input out s turns = Inside (s .places) (length input) (length out) × (length input ≡ length input₀) × (length out ≡ length out₀)
 
 abbrev μ-loop : tie.MeasureT-loop
 μ-loop input₀ out₀ s₀ turns₀ input out s turns = turns

@@ -2,9 +2,9 @@
 -- Assumes nothing.
 use borrow.Author.Needs.{needs}
 use mathlib.Core.Path.{subst}
-use Rattle.changer.specs.declared.Next.{Next}
-use Rattle.changer.specs.Places.{Stands, unread}
-use Rattle.changer.proofs.InputLaws.{frame-inside}
+use Rattle.frames.specs.declared.stream.Next.{Next}
+use Rattle.frames.specs.Buffers.{Stands, unread}
+use Rattle.frames.proofs.InputLaws.{frame-inside}
 use Rattle.changer.proofs.turn.Statement.{statement}
 use Rattle.changer.proofs.turn.Tie as tie
 
@@ -18,12 +18,12 @@ answered-requires : tie.Need-answered-requires
 answered-requires c κs =
     let size = c .before .before .before in
     let next = size .before .before in
-    let start = next .before .before .before .before in
+    let start = next .before .before .before .before .before in
     let a = start .args in
     let inside = start .pre in (
       inside,
-      frame-inside (a .input .now) (a .s .from) (a .s .to) (inside .unread) (inside .read) (size .size .given .0 .0)
-          (subst (λ (n : Next). Stands n (unread (a .input .now) (a .s .from) (a .s .to))) (size .size .given .1) (next .ahead .ensures)),
+      frame-inside (a .input .now) (a .s .places .from) (a .s .places .to) (inside .unread) (inside .read) (size .size .given .0 .0)
+          (subst (λ (n : Next). Stands n (unread (a .input .now) (a .s .places .from) (a .s .places .to))) (size .size .given .1) (next .ahead .ensures)),
     )
 
 enum-told : tie.Need-enum-told
@@ -32,11 +32,17 @@ enum-told c = search needs
 filled-requires : tie.Need-filled-requires
 filled-requires c κs = search needs
 
+moved-requires : tie.Need-moved-requires
+moved-requires c κs = search needs
+
 enum-told-2 : tie.Need-enum-told-2
 enum-told-2 c = search needs
 
 ended-requires : tie.Need-ended-requires
 ended-requires c κs = search needs
+
+moved-requires-2 : tie.Need-moved-requires-2
+moved-requires-2 c κs = search needs
 
 same-length : tie.Need-same-length
 same-length c = search needs
@@ -54,7 +60,7 @@ same-length-4 : tie.Need-same-length-4
 same-length-4 c = search needs
 
 returns-2 : tie.Need-returns-2
-returns-2 c = search needs
+returns-2 c = rw (c .moved .ensures .2) (c .before .before .before .before .before .filled .ensures)
 
 same-length-5 : tie.Need-same-length-5
 same-length-5 c = search needs
@@ -63,7 +69,7 @@ same-length-6 : tie.Need-same-length-6
 same-length-6 c = search needs
 
 returns-3 : tie.Need-returns-3
-returns-3 c = search needs
+returns-3 c = rw (c .moved2 .ensures .2) (search needs)
 
 pub turn-spec : {M : Type 1} → statement M
 turn-spec =
@@ -74,8 +80,10 @@ turn-spec =
     answered-requires
     enum-told
     filled-requires
+    moved-requires
     enum-told-2
     ended-requires
+    moved-requires-2
     same-length
     same-length-2
     returns

@@ -1,10 +1,10 @@
--- `changer::flush` is safe: what waits lies in the buffer, so the part that is lent has its length.
+-- `frames::stream::flush` is safe: what waits lies in the buffer, so the part that is lent has its length.
 -- Assumes nothing.
 use borrow.Author.Needs.{needs}
 use lib.Seq.{length-take-le}
 use mathlib.Core.Path.{sym}
-use Rattle.changer.proofs.flush.Statement.{statement}
-use Rattle.changer.proofs.flush.Tie as tie
+use Rattle.frames.proofs.stream.flush.Statement.{statement}
+use Rattle.frames.proofs.stream.flush.Tie as tie
 
 slice-aggregate-write-all : tie.Need-slice-aggregate-write-all
 slice-aggregate-write-all c = sym (length-take-le (c .before .before .args .put) (c .before .before .args .out .now) (c .before .before .pre))

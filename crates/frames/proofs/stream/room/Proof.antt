@@ -1,10 +1,10 @@
--- `changer::room` meets its contract: its test is that of `lineAt`, and an empty buffer has room.
+-- `frames::stream::room` meets its contract: its test is that of `lineAt`, and an empty buffer has room.
 -- Assumes nothing.
 use borrow.Author.Tests.{le-leb, lt-leb}
-use Rattle.changer.specs.Places.{lineAt}
+use Rattle.frames.specs.Buffers.{lineAt}
 use borrow.Author.Needs.{needs}
-use Rattle.changer.proofs.room.Statement.{statement}
-use Rattle.changer.proofs.room.Tie as tie
+use Rattle.frames.proofs.stream.room.Statement.{statement}
+use Rattle.frames.proofs.stream.room.Tie as tie
 
 sub-if1 : tie.Need-sub-if1
 sub-if1 c = search needs

@@ -1,9 +1,9 @@
--- `changer::ahead` meets its contract: the header that it reads is that of what is unread, and its two tests tell whether the header and the content are cut off.
+-- `frames::stream::ahead` meets its contract: the header that it reads is that of what is unread, and its two tests tell whether the header and the content are cut off.
 -- Assumes nothing.
 use borrow.Author.Needs.{needs}
-use Rattle.changer.proofs.InputLaws.{head-cut, stands-frame, stands-none, stands-part}
-use Rattle.changer.proofs.ahead.Statement.{statement}
-use Rattle.changer.proofs.ahead.Tie as tie
+use Rattle.frames.proofs.InputLaws.{head-cut, stands-frame, stands-none, stands-part}
+use Rattle.frames.proofs.stream.ahead.Statement.{statement}
+use Rattle.frames.proofs.stream.ahead.Tie as tie
 
 sub-if1 : tie.Need-sub-if1
 sub-if1 c = search needs

@@ -5,12 +5,12 @@ use mathlib.Core.List.{List}
 use mathlib.Core.Path.{_≡_, ap, _∙_}
 use native.Mathlib.Omega.{arith}
 use Prim.Native.Nat.{ℕ, _+_, _-_, _≤_, _<_}
-use Rattle.changer.specs.declared.Next.the-variants.{Frame, Part, Bad as none}
-use Rattle.changer.specs.Places.{Stands, unread}
+use Rattle.frames.specs.declared.stream.Next.the-variants.{Frame, Part, Bad as none}
+use Rattle.frames.specs.Buffers.{Stands, unread}
 use Rattle.frames.proofs.FrameLaws.{bad-head, cut-content, cut-head, framed-head, head-framed}
 use Rattle.frames.specs.Coded.{headOf}
 use Rattle.frames.specs.declared.Head.{Head}
 use Rattle.frames.specs.declared.Head.the-variants.{Content, Bad}
 
 module _ (l : List ℕ) (from to : ℕ) (order : from ≤ to) (inside : to ≤ length l) where
   -- As many bytes are unread as lie between the places.

@@ -1,0 +1,166 @@
+// Printing the parts of a line. Each tells where the output then ends; a full buffer is printed on the way.
+use crate::reading;
+use frames::stream;
+ghost use lib.ListN.{length};
+ghost use Prim.Native.Nat.{_+_, _≤_, _<_};
+
+// One byte.
+pub fn print_byte(out: &mut [u8], put: usize, byte: u8) -> usize
+    ensures { λ r. ⌜ r ≤ length (now (out .entry)) ⌝ }
+{
+    let at = room(out, put);
+    if out.len() <= at {
+        return at;
+    }
+    out[at] = byte;
+    at + 1
+}
+
+// Where a byte can be put: behind what waits, or at the front once that is printed.
+fn room(out: &[u8], put: usize) -> usize
+    ensures { λ r. ⌜ r ≤ length (now (out .entry)) ⌝ }
+{
+    if put < out.len() {
+        return put;
+    }
+    stream::flush(out, out.len());
+    0
+}
+
+// A text as it is.
+pub fn print_text(out: &mut [u8], put: usize, text: &[u8]) -> usize
+    ensures { λ r. ⌜ r ≤ length (now (out .entry)) ⌝ }
+{
+    let mut at = reading::least(put, out.len());
+    let mut i = 0;
+    while i < text.len() {
+        at = print_byte(out, at, text[i]);
+        i += 1;
+    }
+    at
+}
+
+// A number in decimal, behind a space.
+pub fn print_number(out: &mut [u8], put: usize, n: u64) -> usize
+    ensures { λ r. ⌜ r ≤ length (now (out .entry)) ⌝ }
+{
+    let at = print_byte(out, put, b' ');
+    print_decimal(out, at, n)
+}
+
+// A number in decimal.
+fn print_decimal(out: &mut [u8], put: usize, n: u64) -> usize
+    ensures { λ r. ⌜ r ≤ length (now (out .entry)) ⌝ }
+{
+    let mut digits = [0u8; 20];
+    let count = io::decimal(n, &mut digits);
+    print_text(out, put, &digits[..count])
+}
+
+// An image behind a space, packed, in hexadecimal; `-` for no bytes.
+pub fn print_image(out: &mut [u8], put: usize, image: &[u8]) -> usize
+    ensures { λ r. ⌜ r ≤ length (now (out .entry)) ⌝ }
+{
+    if image.len() == 0 {
+        return print_text(out, put, b" -");
+    }
+    let at = print_byte(out, put, b' ');
+    print_packed(out, at, image)
+}
+
+// Bytes, packed, in hexadecimal.
+fn print_packed(out: &mut [u8], put: usize, image: &[u8]) -> usize
+    ensures { λ r. ⌜ r ≤ length (now (out .entry)) ⌝ }
+{
+    let mut at = reading::least(put, out.len());
+    let mut i = 0;
+    while i < image.len() {
+        let run = run_at(image, i);
+        at = print_run(out, at, image[i], run);
+        i += run;
+    }
+    at
+}
+
+// How many bytes the next packed ones stand for: a run of zeros, at most 255, or one byte that is not 0.
+fn run_at(image: &[u8], from: usize) -> usize
+    requires { ⌜ from < length (now image) ⌝ }
+    ensures { λ r. ⌜ (1 ≤ r) × (from + r ≤ length (now (image .entry))) ⌝ }
+{
+    if image[from] != 0 {
+        return 1;
+    }
+    let most = reading::least(255, image.len() - from);
+    let mut n = 1;
+    while n < most {
+        if image[from + n] != 0 {
+            return n;
+        }
+        n += 1;
+    }
+    n
+}
+
+// A byte, and behind a 0 how many there are.
+fn print_run(out: &mut [u8], put: usize, byte: u8, run: usize) -> usize
+    ensures { λ r. ⌜ r ≤ length (now (out .entry)) ⌝ }
+{
+    let at = print_hex(out, put, byte);
+    if byte != 0 {
+        return at;
+    }
+    print_hex(out, at, (run % 256) as u8)
+}
+
+// A byte in hexadecimal.
+fn print_hex(out: &mut [u8], put: usize, byte: u8) -> usize
+    ensures { λ r. ⌜ r ≤ length (now (out .entry)) ⌝ }
+{
+    let at = print_byte(out, put, digit(byte / 16));
+    print_byte(out, at, digit(byte))
+}
+
+// The last hexadecimal digit of a number.
+fn digit(n: u8) -> u8 {
+    let d = n % 16;
+    if d < 10 { 48 + d } else { 87 + d }
+}
+
+// An area behind a space: the bytes up to the last that differs from its pattern, in hexadecimal, then `+` and how many follow.
+pub fn print_area(out: &mut [u8], put: usize, area: &[u8], content: &[u8], pattern: usize) -> usize
+    ensures { λ r. ⌜ r ≤ length (now (out .entry)) ⌝ }
+{
+    let end = touched(area, content, pattern);
+    let a = print_byte(out, put, b' ');
+    let b = print_bytes(out, a, area, end);
+    let c = print_byte(out, b, b'+');
+    print_decimal(out, c, (area.len() - end) as u64)
+}
+
+// Where the last byte ends that differs from the pattern.
+fn touched(area: &[u8], content: &[u8], pattern: usize) -> usize
+    ensures { λ r. ⌜ r ≤ length (now (area .entry)) ⌝ }
+{
+    let mut n = area.len();
+    while 0 < n {
+        if area[n - 1] != reading::pattern_at(content, pattern, n - 1) {
+            return n;
+        }
+        n -= 1;
+    }
+    n
+}
+
+// The first bytes of some, in hexadecimal.
+fn print_bytes(out: &mut [u8], put: usize, bytes: &[u8], count: usize) -> usize
+    requires { ⌜ count ≤ length (now bytes) ⌝ }
+    ensures { λ r. ⌜ r ≤ length (now (out .entry)) ⌝ }
+{
+    let mut at = reading::least(put, out.len());
+    let mut i = 0;
+    while i < count {
+        at = print_hex(out, at, bytes[i]);
+        i += 1;
+    }
+    at
+}
