@@ -1,6 +1,7 @@
-//! The program: frames are read from the input, and a line is printed for each request.
+//! The program and the probe: frames are read from the input, and a line is printed for each.
 
 use crate::change::{change, AREA};
+use crate::probe::probe_line;
 use crate::timetable::Timetable;
 use std::io::{self, BufRead, Read, Write};
 
@@ -11,7 +12,7 @@ pub const LONGEST_FRAME: usize = 4096;
 
 /// What comes next in the input.
 enum Frame {
-    Request(Vec<u8>),
+    Content(Vec<u8>),
     Bad,
     End,
 }
@@ -19,13 +20,26 @@ enum Frame {
 /// From the empty timetable, each request's line is printed; a bad frame says so and ends it.
 pub fn print_lines(input: &mut impl BufRead, output: &mut impl Write) -> io::Result<()> {
     let mut timetable = Timetable::empty();
+    print_each(input, output, |ordinal, request| answer_line(&mut timetable, ordinal, request))
+}
+
+/// Each probe's line is printed; a bad frame says so and ends it.
+pub fn print_probes(input: &mut impl BufRead, output: &mut impl Write) -> io::Result<()> {
+    print_each(input, output, |_, content| probe_line(content))
+}
+
+/// The line of each frame's ordinal and content is printed; a bad frame says so and ends it.
+fn print_each(
+    input: &mut impl BufRead,
+    output: &mut impl Write,
+    mut line: impl FnMut(u64, &[u8]) -> String,
+) -> io::Result<()> {
     let mut ordinal: u64 = 0;
     loop {
         match next_frame(input)? {
-            Frame::Request(request) => {
+            Frame::Content(content) => {
                 ordinal += 1;
-                let line = answer_line(&mut timetable, ordinal, &request);
-                writeln!(output, "{line}")?;
+                writeln!(output, "{}", line(ordinal, &content))?;
             }
             Frame::Bad => return writeln!(output, "bad frame"),
             Frame::End => return Ok(()),
@@ -54,8 +68,8 @@ fn next_frame(input: &mut impl BufRead) -> io::Result<Frame> {
     if length > LONGEST_FRAME {
         return Ok(Frame::Bad);
     }
-    let request = read_up_to(input, length)?;
-    Ok(if request.len() == length { Frame::Request(request) } else { Frame::Bad })
+    let content = read_up_to(input, length)?;
+    Ok(if content.len() == length { Frame::Content(content) } else { Frame::Bad })
 }
 
 /// As many bytes as are wanted, or fewer if the input ends before.
@@ -65,9 +79,9 @@ fn read_up_to(input: &mut impl BufRead, wanted: usize) -> io::Result<Vec<u8>> {
     Ok(bytes)
 }
 
-/// A request in its frame; one longer than a frame can hold is cut to the limit.
-pub fn frame(request: &[u8]) -> Vec<u8> {
-    let content = request.get(..LONGEST_FRAME).unwrap_or(request);
+/// A content in its frame; one longer than a frame can hold is cut to the limit.
+pub fn frame(content: &[u8]) -> Vec<u8> {
+    let content = content.get(..LONGEST_FRAME).unwrap_or(content);
     let length = content.len() as u16;
     let mut frame = vec![TAG_FRAME];
     frame.extend_from_slice(&length.to_be_bytes());

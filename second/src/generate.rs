@@ -38,14 +38,24 @@ pub struct Generator {
 impl Generator {
     /// The stream of a seed with so many requests; its last fiftieth runs towards the highest slot.
     pub fn new(seed: u64, count: u64) -> Generator {
+        Generator::after(Timetable::empty(), seed, count)
+    }
+
+    /// The same from a sound timetable on, instead of the empty one.
+    pub fn after(timetable: Timetable, seed: u64, count: u64) -> Generator {
         Generator {
             random: Random::new(seed),
-            timetable: Timetable::empty(),
+            timetable,
             left: count,
             last_part: count / 50,
             jump_part: (count / 64).max(LEAST_JUMP_PART),
             pending: None,
         }
+    }
+
+    /// The timetable that holds after the requests given so far.
+    pub fn timetable(&self) -> Timetable {
+        self.timetable
     }
 
     /// One request, damaged or with some aim; an aim that waits for its block mostly comes first.

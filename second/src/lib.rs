@@ -3,10 +3,15 @@
 
 #![forbid(unsafe_code)]
 
+pub mod breaks;
+pub mod cases;
 pub mod change;
+pub mod counts;
 pub mod frames;
 pub mod generate;
 pub mod numbers;
+pub mod probe;
+pub mod probes;
 pub mod queries;
 pub mod random;
 pub mod records;
@@ -15,6 +20,8 @@ pub mod timetable;
 mod damage;
 mod slots;
 
+#[cfg(test)]
+mod probe_tests;
 #[cfg(test)]
 mod tests;
 #[cfg(test)]

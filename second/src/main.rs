@@ -1,19 +1,24 @@
-//! The second program's commands: `lines` answers frames, `generate` makes them, and `counts`
-//! counts the answers.
+//! The second program's commands: `lines` answers request frames, `generate` makes them and
+//! `counts` counts the answers; `answers`, `probes` and `probe-counts` do so for probes.
 
 #![forbid(unsafe_code)]
 
-use second_model::change::{change, AREA};
-use second_model::frames::{frame, print_lines};
+use second_model::cases;
+use second_model::counts::{ProbeCounts, RequestCounts};
+use second_model::frames::{frame, print_lines, print_probes};
 use second_model::generate::Generator;
-use second_model::timetable::Timetable;
+use second_model::probes::Probes;
 use std::io::{self, BufWriter, Write};
 use std::process::ExitCode;
 
 const USAGE: &str = "\
-second lines                frames from standard input, a line for each request
-second generate SEED COUNT  random request frames to standard output
-second counts SEED COUNT    how often each number and transition length comes in those frames";
+second lines                    frames from standard input, a line for each request
+second cases                    document 01's cases as request frames to standard output
+second generate SEED COUNT      random request frames to standard output
+second counts SEED COUNT        how often each answer comes in those frames
+second answers                  probe frames from standard input, a line for each probe
+second probes SEED COUNT        document 01's cases and random probes to standard output
+second probe-counts SEED COUNT  how often each answer comes in those probes";
 
 /// The command that the arguments name is run; anything else shows how the program is used.
 fn main() -> ExitCode {
@@ -21,8 +26,9 @@ fn main() -> ExitCode {
     let words: Vec<&str> = arguments.iter().map(String::as_str).collect();
     let done = match words[..] {
         ["lines"] => Some(lines()),
-        ["generate", seed, count] => stream(seed, count).map(generate),
-        ["counts", seed, count] => stream(seed, count).map(counts),
+        ["cases"] => Some(write_frames(cases::requests())),
+        ["answers"] => Some(answers()),
+        [command, seed, count] => numbers(seed, count).and_then(|of| random(command, of)),
         _ => None,
     };
     match done {
@@ -35,9 +41,20 @@ fn main() -> ExitCode {
     }
 }
 
-/// The stream that a seed and a count name, if both are numbers.
-fn stream(seed: &str, count: &str) -> Option<Generator> {
-    Some(Generator::new(seed.parse().ok()?, count.parse().ok()?))
+/// A command on random streams is run, if it is one.
+fn random(command: &str, of: (u64, u64)) -> Option<io::Result<()>> {
+    match command {
+        "generate" => Some(generate(of)),
+        "counts" => Some(counts(of)),
+        "probes" => Some(probes(of)),
+        "probe-counts" => Some(probe_counts(of)),
+        _ => None,
+    }
+}
+
+/// A seed and a count, if both are numbers.
+fn numbers(seed: &str, count: &str) -> Option<(u64, u64)> {
+    Some((seed.parse().ok()?, count.parse().ok()?))
 }
 
 /// Each request on standard input is answered with its line.
@@ -47,52 +64,40 @@ fn lines() -> io::Result<()> {
     output.flush()
 }
 
-/// The stream's requests are written in their frames.
-fn generate(requests: Generator) -> io::Result<()> {
+/// Each probe on standard input is answered with its line.
+fn answers() -> io::Result<()> {
     let mut output = BufWriter::new(io::stdout().lock());
-    for request in requests {
-        output.write_all(&frame(&request))?;
+    print_probes(&mut io::stdin().lock(), &mut output)?;
+    output.flush()
+}
+
+/// Random requests are written in their frames.
+fn generate((seed, count): (u64, u64)) -> io::Result<()> {
+    write_frames(Generator::new(seed, count))
+}
+
+/// The cases and random probes are written in their frames.
+fn probes((seed, count): (u64, u64)) -> io::Result<()> {
+    write_frames(Probes::new(seed, count).map(|made| made.content))
+}
+
+/// Contents are written in their frames.
+fn write_frames(contents: impl IntoIterator<Item = Vec<u8>>) -> io::Result<()> {
+    let mut output = BufWriter::new(io::stdout().lock());
+    for content in contents {
+        output.write_all(&frame(&content))?;
     }
     output.flush()
 }
 
-/// The model answers the stream, and the numbers and classes of transition length are counted.
-fn counts(requests: Generator) -> io::Result<()> {
-    let mut timetable = Timetable::empty();
-    let mut numbers = [0u64; 10];
-    let mut lengths = [0u64; 4];
-    for request in requests {
-        let outcome = change(&timetable, &request, &mut [0; AREA]);
-        timetable = outcome.timetable;
-        if let Some(count) = numbers.get_mut(usize::from(outcome.number)) {
-            *count += 1;
-        }
-        if outcome.number == 0 {
-            lengths[length_class(timetable.length)] += 1;
-        }
-    }
-    print_counts(&numbers, &lengths)
+/// How often each answer comes among random requests.
+fn counts((seed, count): (u64, u64)) -> io::Result<()> {
+    let counts = RequestCounts::of(Generator::new(seed, count));
+    write!(io::stdout(), "{}", counts.table())
 }
 
-/// The class of a transition length: 0, 1, 2 to 8, or over 8.
-fn length_class(length: u8) -> usize {
-    match length {
-        0 => 0,
-        1 => 1,
-        2..=8 => 2,
-        _ => 3,
-    }
-}
-
-/// The counts as a table, a row for each number and each class of length.
-fn print_counts(numbers: &[u64], lengths: &[u64]) -> io::Result<()> {
-    let mut output = io::stdout().lock();
-    writeln!(output, "| Answer | Count |\n|---|---|")?;
-    for (number, count) in numbers.iter().enumerate() {
-        writeln!(output, "| number {number} | {count} |")?;
-    }
-    for (class, count) in ["0", "1", "2 to 8", "over 8"].iter().zip(lengths) {
-        writeln!(output, "| transition length {class} | {count} |")?;
-    }
-    Ok(())
+/// How often each answer comes among the cases and random probes.
+fn probe_counts((seed, count): (u64, u64)) -> io::Result<()> {
+    let counts = ProbeCounts::of(Probes::new(seed, count));
+    write!(io::stdout(), "{}", counts.tables())
 }

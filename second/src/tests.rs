@@ -1,9 +1,11 @@
 //! The bench cases with their exact bytes and numbers, every refusal and the order of the stages,
 //! the clauses of soundness, both queries, the frames, and the skip of repeated cycles.
 
+use crate::cases::{self, record, request_a, request_d};
 use crate::change::{change, most_urgent, placement, Outcome, AREA};
 use crate::frames::{frame, print_lines, LONGEST_FRAME};
 use crate::generate::Generator;
+use crate::probe::probe_line;
 use crate::queries::{owner_query, standing_query};
 use crate::records::{longest_field, share_field, slot_field};
 use crate::slots::{last_offset, next_shortfall, room, Shortfalls, Walk};
@@ -11,15 +13,6 @@ use crate::timetable::{Entry, Listing, Share, Timetable, CYCLE, IDLE, IDS, LAST_
 
 /// A byte that no answer leaves in a whole area, to see which bytes were written.
 const BEFORE: u8 = 0xa5;
-
-/// A request with its shares in full: id, k and R.
-fn record(slot: u64, longest: u8, shares: &[(u8, u8, u8)]) -> Vec<u8> {
-    let mut record = [slot_field(slot), longest_field(longest)].concat();
-    for &(id, k, bound) in shares {
-        record.extend(share_field(id, k, bound, false));
-    }
-    record
-}
 
 /// The outcome of a request with an area of 300 bytes, all checks on the area included.
 fn answered(timetable: &Timetable, record: &[u8]) -> (Outcome, Vec<u8>) {
@@ -55,14 +48,9 @@ fn shortfalls(timetable: &Timetable, slot: u64) -> [u16; 3] {
     [0, 1, 2].map(|id| standing_query(timetable, id, slot).1)
 }
 
-/// Case A's request.
-fn request_a() -> Vec<u8> {
-    record(0, 0, &[(0, 2, 1), (1, 2, 1)])
-}
-
 /// Case B's request with some T.
 fn request_b(longest: u8) -> Vec<u8> {
-    record(6, longest, &[(0, 2, 1), (1, 2, 1), (2, 1, 2)])
+    cases::request_b(6, longest)
 }
 
 /// The timetable after case A.
@@ -73,11 +61,6 @@ fn after_a() -> Timetable {
 /// The timetable after case B.
 fn after_b() -> Timetable {
     accepted(&after_a(), &request_b(1), 2)
-}
-
-/// Case D's and E's listing at a slot.
-fn request_d(slot: u64, longest: u8) -> Vec<u8> {
-    record(slot, longest, &[(0, 2, 1), (1, 2, 1), (2, 1, 1)])
 }
 
 /// A: on the empty timetable, two periods of 4 get offsets 3 and 2.
@@ -634,6 +617,94 @@ fn lines_of_every_case() {
     assert_eq!(lines_of(&input.concat()), lines);
 }
 
+/// The lines of document 01's cases, in the stream's order.
+#[test]
+fn lines_of_the_cases() {
+    let input: Vec<u8> = cases::requests().iter().flat_map(|request| frame(request)).collect();
+    let lines = "1 3 0 0 0\n2 3 11 0 0\n3 4 0 0 0\n4 4 11 0 0\n5 0 0 1 0\n6 0 0 1 0\n7 7 9 0 0\n\
+                 8 0 0 1 0\n9 0 0 1 0\n10 0 0 1 0\n11 9 0 1 0\n12 0 0 2 1\n13 8 2 0 0\n\
+                 14 9 0 1 0\n15 9 0 2 0\n16 9 0 3 0\n17 9 0 3 0\n18 9 0 3 0\n19 6 0 0 0\n\
+                 20 0 0 1 0\n21 0 0 1 0\n";
+    assert_eq!(lines_of(&input), lines);
+}
+
+/// The image of the empty timetable, packed: 255 zeros and 18.
+const IMAGE_EMPTY: &str = "00ff0012";
+/// The image after case A: periods 4, offsets 3 and 2, R 1.
+const IMAGE_A: &str = "0052040301000304020100b6";
+/// The image after case B: slot 6, length 1, owner 1, base 7; offsets 0, 2, 1; shortfalls 192, 0, 128.
+const IMAGE_B: &str = "00070601010046070001040001010001c00001040201000302010200018000ae";
+/// Case B's answer.
+const ANSWER_B: &str = "1000010111000101120002000012000201021200020201";
+
+/// The probe's lines for the cases that are requests, from empty, after A and after B.
+fn change_lines() -> Vec<String> {
+    let mut lines: Vec<String> = ["3 0 0", "3 11 0", "4 0 0", "4 11 0"]
+        .map(|refusal| format!("change {refusal} 0 {IMAGE_EMPTY} +231"))
+        .to_vec();
+    lines.extend([(); 2].map(|_| format!("change 0 0 1 7 {IMAGE_EMPTY} 10000100110000+224")));
+    lines.push(format!("change 7 9 0 0 {IMAGE_EMPTY} +231"));
+    let last_slot = "0002ffffffffffff0043ffffffffffff00c0";
+    lines.push(format!("change 0 0 1 7 {last_slot} 10000100110000+224"));
+    lines.push("change 0 0 1 12 006a0100010100a4 100001001100001200020400+219".to_string());
+    let answer_a = "1000010011000012000200031200020102";
+    lines.push(format!("change 0 0 1 17 {IMAGE_A} {answer_a}+214"));
+    lines.push(format!("change 9 0 1 0 {IMAGE_A} +231"));
+    lines.extend([(); 2].map(|_| format!("change 0 0 2 23 {IMAGE_B} {ANSWER_B}+208")));
+    let refusals = ["8 2 0", "9 0 1", "9 0 2", "9 0 3", "9 0 3", "9 0 3", "6 0 0"];
+    lines.extend(refusals.map(|refusal| format!("change {refusal} 0 {IMAGE_B} +231")));
+    lines
+}
+
+/// The probe's lines for the cases' areas: 230 is refused 2, 231 and more are enough.
+fn area_lines() -> Vec<String> {
+    let answer_a = "1000010011000012000200031200020102";
+    vec![
+        format!("change 2 0 0 0 {IMAGE_EMPTY} +0"),
+        format!("change 2 0 0 0 {IMAGE_EMPTY} +230"),
+        format!("change 0 0 1 17 {IMAGE_A} {answer_a}+215"),
+        format!("change 0 0 1 17 {IMAGE_A} {answer_a}+65518"),
+        format!("change 2 0 0 0 {IMAGE_EMPTY} +230"),
+        "change 1 0 0 0 00500100c0 +230".to_string(),
+        "change 1 0 0 0 00500100c0 +231".to_string(),
+    ]
+}
+
+/// The probe's lines for the queries: owners after A and B, then the standings that B and D name.
+fn query_lines() -> Vec<String> {
+    let owners = ["0 0 255", "0 0 255", "0 0 1", "0 0 0"];
+    let after_b = ["6 0 0", "0 0 1", "0 0 0", "0 0 2", "0 0 1", "0 0 2", "0 0 0", "4 0 0"];
+    let standings = [
+        ["0 0 128 1", "0 0 192 1", "10 0 0 0", "0 0 192 0", "0 0 0 0", "0 0 128 0"],
+        ["6 0 0 0", "0 0 256 0", "0 0 128 140737488355324", "4 0 0 0", "4 0 0 0", "4 0 0 0"],
+    ];
+    let owners = owners.iter().chain(&after_b).map(|figures| format!("owner {figures}"));
+    let standings = standings.iter().flatten().map(|figures| format!("standing {figures}"));
+    owners.chain(standings).collect()
+}
+
+/// The probe's lines for document 01's cases.
+#[test]
+fn probe_lines_of_the_cases() {
+    let lines: Vec<String> = cases::probes().iter().map(|probe| probe_line(probe)).collect();
+    let (empties, rest) = lines.split_at(3);
+    assert_eq!(empties, [&format!("empty 0 {IMAGE_EMPTY}"), "empty 1 a5a5", "empty 1 -"]);
+    let (changes, rest) = rest.split_at(20);
+    assert_eq!(changes, change_lines());
+    let (others, rest) = rest.split_at(3);
+    let after_f = IMAGE_B.replace("00070601010046", "0007070048");
+    let answer_f = ANSWER_B.replace("1000010111000101", "10000100110000");
+    assert_eq!(others[0], format!("change 0 0 1 22 {after_f} {answer_f}+209"));
+    let late_slice = "0052020101000f040001010001c000a8";
+    let answer = "1000010011000012000200011200020300";
+    assert_eq!(others[1], format!("change 0 0 1 17 {late_slice} {answer}+214"));
+    assert!(others[2].starts_with("change 0 0 1 167 0007400048400001201f010003201e"));
+    assert!(others[2].ends_with("1200021e011200021f00+64"));
+    let (areas, queries) = rest.split_at(7);
+    assert_eq!(areas, area_lines());
+    assert_eq!(queries, query_lines());
+}
+
 /// A wrong tag, a longer length or a frame cut off prints `bad frame` and ends it.
 #[test]
 fn bad_frames() {
@@ -676,7 +747,7 @@ fn a_seed_always_gives_the_same_stream() {
 }
 
 /// Soundness once more, clause by clause in numbers instead of slots.
-fn sound_in_numbers(timetable: &Timetable) -> bool {
+pub(crate) fn sound_in_numbers(timetable: &Timetable) -> bool {
     let length = usize::from(timetable.length);
     let listed = |id: u8| id < 32 && timetable.entries[usize::from(id)].period > 0;
     let owner = |(slot, &id): (usize, &u8)| if slot < length { listed(id) } else { id == 0 };

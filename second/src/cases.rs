@@ -1,0 +1,164 @@
+//! Document 01's cases as requests and queries: the bench cases that are such, and the run-only ones.
+
+use crate::change::{change, AREA};
+use crate::probe::{
+    change_content, empty_content, image_field, image_of, owner_content, standing_content, IMAGE,
+};
+use crate::records::{longest_field, share_field, slot_field};
+use crate::timetable::{Entry, Timetable, IDS, LAST_SLOT};
+
+/// The byte that fills the areas of the cases.
+const BEFORE: u8 = 0xa5;
+
+/// A request with its shares in full: id, k and R.
+pub fn record(slot: u64, longest: u8, shares: &[(u8, u8, u8)]) -> Vec<u8> {
+    let mut record = [slot_field(slot), longest_field(longest)].concat();
+    for &(id, k, bound) in shares {
+        record.extend(share_field(id, k, bound, false));
+    }
+    record
+}
+
+/// Case A's request.
+pub fn request_a() -> Vec<u8> {
+    record(0, 0, &[(0, 2, 1), (1, 2, 1)])
+}
+
+/// Case B's listing at a slot with some T.
+pub fn request_b(slot: u64, longest: u8) -> Vec<u8> {
+    record(slot, longest, &[(0, 2, 1), (1, 2, 1), (2, 1, 2)])
+}
+
+/// Case D's and E's listing at a slot.
+pub fn request_d(slot: u64, longest: u8) -> Vec<u8> {
+    record(slot, longest, &[(0, 2, 1), (1, 2, 1), (2, 1, 1)])
+}
+
+/// Case J's request: period 1 with R 1 alone.
+fn request_j() -> Vec<u8> {
+    record(0, 0, &[(4, 0, 1)])
+}
+
+/// Case J's request with a later id of period 256 too.
+fn request_j_overfull() -> Vec<u8> {
+    record(0, 0, &[(4, 0, 1), (9, 8, 1)])
+}
+
+/// The timetable after some requests, one after another.
+fn after(requests: &[Vec<u8>]) -> Timetable {
+    requests.iter().fold(Timetable::empty(), |timetable, request| {
+        change(&timetable, request, &mut [0; AREA]).timetable
+    })
+}
+
+/// The requests on the empty timetable: fields and limits, and the empty listing.
+fn from_empty() -> Vec<Vec<u8>> {
+    vec![
+        Vec::new(),
+        slot_field(0),
+        record(LAST_SLOT + 1, 0, &[]),
+        record(0, 65, &[]),
+        record(0, 64, &[]),
+        record(0, 0, &[]),
+        request_j_overfull(),
+    ]
+}
+
+/// The requests after case B: D, E at some T, and F's slot before the base.
+fn from_b() -> Vec<Vec<u8>> {
+    let mut requests = vec![request_d(8, 64)];
+    requests.extend([0, 1, 2, 3, 64].map(|longest| request_d(9, longest)));
+    requests.push(request_b(6, 64));
+    requests
+}
+
+/// The cases as one stream of requests from the empty timetable; at its end nothing is listed.
+pub fn requests() -> Vec<Vec<u8>> {
+    let mut requests = from_empty();
+    requests.extend([request_j(), record(0, 0, &[])]);
+    requests.extend([request_a(), request_b(6, 0), request_b(6, 1)]);
+    requests.extend(from_b());
+    requests.extend([request_b(7, 64), record(7, 64, &[])]);
+    requests
+}
+
+/// The cases as probes, each from the timetable that it speaks of.
+pub fn probes() -> Vec<Vec<u8>> {
+    [empties(), changes(), areas(), queries()].concat()
+}
+
+/// The empty timetable in an image, and in one that is too short.
+fn empties() -> Vec<Vec<u8>> {
+    [vec![BEFORE; IMAGE], vec![BEFORE; 2], Vec::new()]
+        .map(|image| empty_content(&image_field(&image)))
+        .to_vec()
+}
+
+/// The lettered cases and the run-only ones that are requests.
+fn changes() -> Vec<Vec<u8>> {
+    let (empty, a) = (Timetable::empty(), after(&[request_a()]));
+    let b = after(&[request_a(), request_b(6, 1)]);
+    let mut probes: Vec<Vec<u8>> =
+        from_empty().iter().map(|request| change_probe(&empty, request, 231)).collect();
+    probes.push(change_probe(&empty, &record(LAST_SLOT, 64, &[]), 231));
+    probes.extend([request_j(), request_a()].map(|request| change_probe(&empty, &request, 231)));
+    probes.extend([0, 1, 64].map(|longest| change_probe(&a, &request_b(6, longest), 231)));
+    probes.extend(from_b().iter().map(|request| change_probe(&b, request, 231)));
+    probes.push(change_probe(&b, &request_b(7, 64), 231));
+    probes.push(change_probe(&late_slice(), &record(0, 0, &[(0, 1, 1), (3, 2, 1)]), 231));
+    probes.push(change_probe(&all_listed(), &all_again(), 231));
+    probes
+}
+
+/// Areas of 230 bytes, of 231 and more, and faults of several stages at once.
+fn areas() -> Vec<Vec<u8>> {
+    let empty = Timetable::empty();
+    let unsound = Timetable { base: 1, ..empty };
+    let mut probes: Vec<Vec<u8>> =
+        [0, 230, 232, u16::MAX].map(|area| change_probe(&empty, &request_a(), area)).to_vec();
+    probes.push(change_probe(&empty, &[], 230));
+    probes.push(change_probe(&unsound, &[], 230));
+    probes.push(change_probe(&unsound, &request_a(), 231));
+    probes
+}
+
+/// The figures that the cases name, as queries, and the queries' limits.
+fn queries() -> Vec<Vec<u8>> {
+    let a = image_field(&image_of(&after(&[request_a()])));
+    let b = image_field(&image_of(&after(&[request_a(), request_b(6, 1)])));
+    let mut probes: Vec<Vec<u8>> = (0..4).map(|slot| owner_content(&a, slot)).collect();
+    probes.extend((5..11).map(|slot| owner_content(&b, slot)));
+    probes.extend([LAST_SLOT, LAST_SLOT + 1].map(|slot| owner_content(&b, slot)));
+    probes.extend([0, 1, 2].map(|id| standing_content(&a, id, 6)));
+    probes.extend([0, 1, 2].map(|id| standing_content(&b, id, 7)));
+    probes.extend([6, 8, LAST_SLOT, LAST_SLOT + 1].map(|slot| standing_content(&b, 2, slot)));
+    probes.extend([32, 255].map(|id| standing_content(&b, id, 7)));
+    probes
+}
+
+/// A change probe of a timetable and a request, with an area of one byte over and over.
+fn change_probe(timetable: &Timetable, request: &[u8], area: u16) -> Vec<u8> {
+    change_content(&image_field(&image_of(timetable)), request, area, &[BEFORE])
+}
+
+/// Period 4 with last offset 0: where the earliest free offset is taken, period 2 shuts it out.
+fn late_slice() -> Timetable {
+    let mut timetable = Timetable::empty();
+    timetable.entries[3] = Entry { period: 4, offset: 0, bound: 1, shortfall: 192 };
+    timetable
+}
+
+/// All 32 ids with period 32, each with its own offset, after a transition of 64 slots.
+fn all_listed() -> Timetable {
+    let mut timetable = Timetable { length: 64, base: 64, ..Timetable::empty() };
+    for (offset, entry) in (0..).zip(&mut timetable.entries) {
+        *entry = Entry { period: 32, offset, bound: 1, shortfall: 0 };
+    }
+    timetable
+}
+
+/// All 32 ids asked for once more, at the base of the timetable that lists them.
+fn all_again() -> Vec<u8> {
+    let shares: Vec<(u8, u8, u8)> = (0..IDS as u8).map(|id| (id, 5, 1)).collect();
+    record(64, 64, &shares)
+}
