@@ -1,0 +1,99 @@
+//! All answers of the library and the port held against each other, before anything is timed.
+
+use port::{AREA, IMAGE};
+
+use crate::inputs::{empty_image, Input, Query};
+use crate::library;
+use crate::random::Random;
+
+/// What stands in an area before a call.
+const FILL: u8 = 0x5a;
+
+/// How many calls agreed, or what differs.
+pub type Agreed = Result<usize, String>;
+
+/// One change by both: outcome, image and area.
+fn same_change(image: &[u8], record: &[u8], area: usize) -> Result<(), String> {
+    let (mut image_a, mut image_b) = (image.to_vec(), image.to_vec());
+    let (mut area_a, mut area_b) = (vec![FILL; area], vec![FILL; area]);
+    let a = library::change(&mut image_a, record, &mut area_a);
+    let b = port::change(&mut image_b, record, &mut area_b);
+    if a != b || image_a != image_b || area_a != area_b {
+        return Err(format!("change differs: library {a:?}, port {b:?}, record {record:?}"));
+    }
+    Ok(())
+}
+
+/// Changes with an area just large enough, and with one too small and one larger.
+pub fn changes(inputs: &[Input]) -> Agreed {
+    for input in inputs {
+        for area in [AREA, AREA - 1, AREA + 69] {
+            same_change(&input.image, &input.record, area)?;
+        }
+    }
+    Ok(3 * inputs.len())
+}
+
+/// Changes and queries on images with bytes changed, most of them not sound, and of other lengths.
+pub fn damaged(seed: u64, inputs: &[Input]) -> Agreed {
+    let mut random = Random::new(seed);
+    for input in inputs {
+        let mut image = input.image.to_vec();
+        for _ in 0..random.between(1, 2) {
+            let at = random.below(IMAGE as u64) as usize;
+            image[at] ^= 1 << random.below(8);
+        }
+        image.resize(random.pick(&[IMAGE, IMAGE, IMAGE, 0, IMAGE - 1, IMAGE + 1]), 0);
+        same_change(&image, &input.record, AREA)?;
+        same_queries(&image, random.below(34) as u8, random.below(1 << 12))?;
+    }
+    Ok(3 * inputs.len())
+}
+
+/// Both queries by both.
+fn same_queries(image: &[u8], id: u8, slot: u64) -> Result<(), String> {
+    let (a, b) = (library::owner(image, slot), port::owner(image, slot));
+    if a != b {
+        return Err(format!("owner query differs: library {a:?}, port {b:?}, slot {slot}"));
+    }
+    let (a, b) = (library::standing(image, id, slot), port::standing(image, id, slot));
+    if a != b {
+        return Err(format!("standing query differs: library {a:?}, port {b:?}, slot {slot}"));
+    }
+    Ok(())
+}
+
+/// Both queries on all inputs.
+pub fn queries(queries: &[Query]) -> Agreed {
+    for query in queries {
+        same_queries(&query.image, query.id, query.slot)?;
+    }
+    Ok(2 * queries.len())
+}
+
+/// The empty image by both, also where the length is wrong.
+pub fn empty() -> Agreed {
+    for size in [0, IMAGE - 1, IMAGE, IMAGE + 1] {
+        let (mut a, mut b) = (vec![FILL; size], vec![FILL; size]);
+        if library::empty(&mut a) != port::empty(&mut b) || a != b {
+            return Err(format!("empty differs at {size} bytes"));
+        }
+    }
+    Ok(4)
+}
+
+/// The requests of a stream of frames, one after the other from the empty controller.
+pub fn stream(frames: &[u8]) -> Agreed {
+    let mut image = empty_image();
+    let mut count = 0;
+    let mut rest = frames;
+    while let [_, high, low, content @ ..] = rest {
+        let size = usize::from(u16::from_be_bytes([*high, *low]));
+        let (record, after) = content.split_at(size);
+        same_change(&image, record, AREA)?;
+        library::change(&mut image, record, &mut [0; AREA]);
+        count += 1;
+        rest = after;
+    }
+    Ok(count)
+}

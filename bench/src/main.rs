@@ -1,0 +1,166 @@
+//! The library and the plain port, side by side on the same inputs.
+//! bench SEED FRAMES CHANGER PORT: FRAMES is a file for the programs CHANGER and PORT.
+
+mod compare;
+mod desk;
+mod inputs;
+mod library;
+mod program;
+mod queries;
+mod random;
+mod request;
+mod rows;
+mod source;
+mod stack;
+mod table;
+mod timing;
+mod work;
+mod worst;
+
+use std::error::Error;
+
+use desk::Desk;
+use inputs::{listed_ids, Input};
+use port::number::{ACCEPTED, NO_SCHEDULE};
+use port::{IDS, LONGEST};
+use rows::{Asked, Inputs};
+use table::Section;
+
+/// The histories of source 001's workload.
+const HISTORIES: usize = 200;
+/// The worst inputs of each ending.
+const WORST: usize = 12;
+/// The odd queries, which are compared only.
+const ODD: usize = 2000;
+/// Source 001's heuristic takes 300 microseconds; the goal is to be 20 times faster.
+const SOURCE_GOAL: f64 = 300.0 / 20.0;
+/// A tenth of a slot of 2 ms, in microseconds.
+const WORST_GOAL: f64 = 200.0;
+
+/// What the command line names.
+struct Arguments {
+    seed: u64,
+    frames: String,
+    changer: String,
+    port: String,
+}
+
+/// Compares, then measures and prints all.
+fn main() -> Result<(), Box<dyn Error>> {
+    let arguments = arguments().ok_or("bench SEED FRAMES CHANGER PORT")?;
+    let inputs = all_inputs(arguments.seed);
+    let asked = rows::asked(arguments.seed, &inputs);
+    verify_worst(&inputs)?;
+    compare_calls(&arguments, &inputs, &asked)?;
+    let frames = compare_programs(&arguments)?;
+    let Arguments { changer, port, frames: file, .. } = &arguments;
+    let sections = [
+        rows::source(&inputs),
+        rows::worst(&inputs),
+        rows::query_section(&asked),
+        rows::programs(changer, port, file, frames)?,
+    ];
+    sections.iter().for_each(Section::print);
+    describe(&inputs.source);
+    print_stack(&inputs);
+    print_goals(&sections);
+    Ok(())
+}
+
+/// The command line's four words.
+fn arguments() -> Option<Arguments> {
+    let mut words = std::env::args().skip(1);
+    let seed = words.next()?.parse().ok()?;
+    let (frames, changer, port) = (words.next()?, words.next()?, words.next()?);
+    Some(Arguments { seed, frames, changer, port })
+}
+
+/// The inputs of a seed.
+fn all_inputs(seed: u64) -> Inputs {
+    Inputs {
+        source: source::source_inputs(seed, HISTORIES),
+        exhausted: worst::worst_inputs(seed, NO_SCHEDULE, WORST),
+        found: worst::worst_inputs(seed, ACCEPTED, WORST),
+    }
+}
+
+/// Each worst input has 32 listed before and after, T 64 and tries 65.
+fn verify_worst(inputs: &Inputs) -> Result<(), String> {
+    for input in inputs.exhausted.iter().chain(&inputs.found) {
+        let before = listed_ids(&input.image).len();
+        let after = (input.record.len() - 15) / 6;
+        let longest = usize::from(input.record[14]);
+        let searched = input.outcome().tries == worst::ALL_TRIES;
+        if before != IDS || after != IDS || longest != LONGEST || !searched {
+            return Err("a worst input is not one".to_string());
+        }
+    }
+    Ok(())
+}
+
+/// Holds all answers of both against each other.
+fn compare_calls(arguments: &Arguments, inputs: &Inputs, asked: &[Asked]) -> Result<(), String> {
+    let seed = arguments.seed;
+    let mut calls = compare::empty()?;
+    for inputs in [&inputs.source, &inputs.exhausted, &inputs.found] {
+        calls += compare::changes(inputs)? + compare::damaged(seed, inputs)?;
+    }
+    for row in asked {
+        calls += compare::queries(&row.queries)?;
+    }
+    let images = queries::timetables(&inputs.source, 1, IDS);
+    calls += compare::queries(&queries::odd_queries(seed, &images, ODD))?;
+    let frames = std::fs::read(&arguments.frames).map_err(|error| error.to_string())?;
+    calls += compare::stream(&frames)?;
+    println!(
+        "\nBoth give the same in {calls} calls: numbers, places, tries, bytes, areas, images."
+    );
+    Ok(())
+}
+
+/// Holds the lines of the programs against each other, and counts them.
+fn compare_programs(arguments: &Arguments) -> Result<usize, Box<dyn Error>> {
+    let changer = program::lines(&arguments.changer, &arguments.frames)?;
+    if changer != program::lines(&arguments.port, &arguments.frames)? {
+        return Err("the lines of the programs differ".into());
+    }
+    let lines = changer.iter().filter(|&&byte| byte == b'\n').count();
+    println!("Both programs print the same {lines} lines.");
+    Ok(lines)
+}
+
+/// Prints how the requests of the workload end.
+fn describe(inputs: &[Input]) {
+    let mut numbers = [0; 11];
+    for outcome in inputs.iter().map(Input::outcome) {
+        numbers[usize::from(outcome.number)] += 1;
+    }
+    let [accepted, .., behind, missed, _] = numbers;
+    print!("\nOf the {} requests of (a) {accepted} are accepted, ", inputs.len());
+    println!("{behind} refused 8, {missed} refused 9.");
+}
+
+/// Prints the stack's depth over all changes.
+fn print_stack(inputs: &Inputs) {
+    let mut desk = Desk::new();
+    let all = || inputs.source.iter().chain(&inputs.exhausted).chain(&inputs.found);
+    let library = stack::depth(&mut || all().for_each(|input| desk.library(input)));
+    let port = stack::depth(&mut || all().for_each(|input| desk.port(input)));
+    let nothing = stack::depth(&mut || ());
+    println!("\n### Stack of a change, bytes\n");
+    println!("| library | port | no call |\n|---|---|---|\n| {library} | {port} | {nothing} |");
+}
+
+/// Prints which goals are met.
+fn print_goals(sections: &[Section; 4]) {
+    let [source, worst, ..] = sections;
+    let all = source.rows[0].library();
+    table::goals_head();
+    table::goal("(a) all requests, median, microseconds", all.median, SOURCE_GOAL);
+    table::goal("(a) all requests, worst, microseconds", all.worst, SOURCE_GOAL);
+    for row in &worst.rows {
+        let name = format!("(b) {}, worst, microseconds", row.name);
+        table::goal(&name, row.library().worst, WORST_GOAL);
+    }
+    table::ratio_goals(sections);
+}

@@ -1,0 +1,68 @@
+//! What a timetable holds for one id, and the figures that follow from it.
+
+use crate::timetable::{LARGEST_BOUND, WHOLE};
+
+/// One id's entry; a period of 0 says that the id is not listed.
+#[derive(Clone, Copy, Debug, Default, PartialEq, Eq)]
+pub struct Entry {
+    pub period: u16,
+    pub offset: u8,
+    pub bound: u8,
+    pub shortfall: u16,
+}
+
+impl Entry {
+    /// Whether the id is listed.
+    pub fn is_listed(&self) -> bool {
+        self.period != 0
+    }
+
+    /// The weight of a listed entry.
+    pub fn weight(&self) -> u16 {
+        WHOLE / self.period
+    }
+
+    /// In range where listed, all zero where not.
+    pub fn is_well_formed(&self) -> bool {
+        if !self.is_listed() {
+            return *self == Entry::default();
+        }
+        self.period.is_power_of_two()
+            && self.period <= WHOLE
+            && (1..=LARGEST_BOUND).contains(&self.bound)
+            && u16::from(self.offset) < self.period
+            && self.keeps_bound()
+    }
+
+    /// Whether shortfall + offset x weight is below 256 R.
+    fn keeps_bound(&self) -> bool {
+        let owed = u32::from(self.shortfall) + u32::from(self.offset) * u32::from(self.weight());
+        owed < u32::from(WHOLE) * u32::from(self.bound)
+    }
+
+    /// Whether the slot n slots after the base is its own; the period is a power of two.
+    pub fn takes(&self, n: u64) -> bool {
+        self.is_listed() && n & (u64::from(self.period) - 1) == u64::from(self.offset)
+    }
+
+    /// The shortfall n slots after the base: after the first own slot each period repeats.
+    pub fn shortfall_after(&self, n: u64) -> u16 {
+        let weight = self.weight();
+        let offset = u64::from(self.offset);
+        if n <= offset {
+            return self.shortfall + n as u16 * weight;
+        }
+        let since = (n - offset - 1) & (u64::from(self.period) - 1);
+        let owed = self.shortfall + (u16::from(self.offset) + 1) * weight;
+        owed.saturating_sub(WHOLE) + since as u16 * weight
+    }
+
+    /// The slices had in the n slots from the base.
+    pub fn slices_after(&self, n: u64) -> u64 {
+        let offset = u64::from(self.offset);
+        if n <= offset {
+            return 0;
+        }
+        ((n - offset - 1) >> self.period.trailing_zeros()) + 1
+    }
+}

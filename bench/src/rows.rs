@@ -1,0 +1,118 @@
+//! What is measured in each row.
+
+use std::io;
+
+use port::IDS;
+
+use crate::desk::{self, Desk};
+use crate::inputs::{Input, Query};
+use crate::program;
+use crate::queries::{queries, timetables, Where};
+use crate::table::{Row, Section};
+use crate::timing::{self, Effort, Times};
+
+/// The queries of a row.
+const QUERIES: usize = 400;
+/// The passes over source 001's workload.
+const PASSES: usize = 25;
+/// The runs of each program.
+const RUNS: usize = 9;
+/// How often a request of source 001's workload is timed.
+const SOURCE_EFFORT: Effort = Effort { batch: 16, rounds: 21 };
+/// How often a worst request is timed.
+const WORST_EFFORT: Effort = Effort { batch: 4, rounds: 41 };
+/// How often a query is timed.
+const QUERY_EFFORT: Effort = Effort { batch: 64, rounds: 15 };
+
+/// The inputs of all changes: source 001's, and the worst in vain and found at the last length.
+pub struct Inputs {
+    pub source: Vec<Input>,
+    pub exhausted: Vec<Input>,
+    pub found: Vec<Input>,
+}
+
+/// The queries of a row, and where their slots lie.
+pub struct Asked {
+    name: String,
+    place: Where,
+    pub queries: Vec<Query>,
+}
+
+/// Source 001's workload: all requests, those searched, and one pass after the other over all.
+pub fn source(inputs: &Inputs) -> Section {
+    let all = &inputs.source;
+    let rows = vec![
+        changes("all requests", all, SOURCE_EFFORT),
+        changes("those that were searched", &with_tries(all, 1), SOURCE_EFFORT),
+        changes("those with 2 tries or more", &with_tries(all, 2), SOURCE_EFFORT),
+        passes("all in turn, none repeated, mean of a request", all),
+    ];
+    Section { letter: "a", title: "Source 001's workload", rows }
+}
+
+/// The inputs with so many tries or more.
+fn with_tries(inputs: &[Input], fewest: u8) -> Vec<Input> {
+    inputs.iter().filter(|input| input.outcome().tries >= fewest).cloned().collect()
+}
+
+/// The worst case.
+pub fn worst(inputs: &Inputs) -> Section {
+    let rows = vec![
+        changes("in vain (refused 9)", &inputs.exhausted, WORST_EFFORT),
+        changes("found at 64", &inputs.found, WORST_EFFORT),
+    ];
+    Section { letter: "b", title: "The worst case: 32 partitions, T 64, tries 65", rows }
+}
+
+/// A row of changes, each repeated.
+fn changes(name: &str, inputs: &[Input], effort: Effort) -> Row {
+    let (mut a, mut b) = (Desk::new(), Desk::new());
+    let times = timing::each(inputs, effort, |input| a.library(input), |input| b.port(input));
+    Row { name: name.to_string(), counted: "inputs", times }
+}
+
+/// A row of passes over changes.
+fn passes(name: &str, inputs: &[Input]) -> Row {
+    let (mut a, mut b) = (Desk::new(), Desk::new());
+    let times = timing::passes(inputs, PASSES, |input| a.library(input), |input| b.port(input));
+    Row { name: name.to_string(), counted: "passes", times }
+}
+
+/// The queries of each row: timetables with a transition, of 32 and of about 12 partitions.
+pub fn asked(seed: u64, inputs: &Inputs) -> Vec<Asked> {
+    let large = timetables(&inputs.found, IDS, IDS);
+    let small = timetables(&inputs.source, 11, 13);
+    let mut rows = Vec::new();
+    for (size, images) in [("32", &large), ("11 to 13", &small)] {
+        for place in [Where::Transition, Where::Near, Where::Far] {
+            let name = format!("{size} partitions, slots {}", place.name());
+            rows.push(Asked { name, place, queries: queries(seed, images, place, QUERIES) });
+        }
+    }
+    rows
+}
+
+/// The queries. A standing query is refused in the transition and has no row there.
+pub fn query_section(asked: &[Asked]) -> Section {
+    let mut rows = Vec::new();
+    for Asked { name, queries, .. } in asked {
+        let times = timing::each(queries, QUERY_EFFORT, desk::library_owner, desk::port_owner);
+        rows.push(Row { name: format!("owner, {name}"), counted: "inputs", times });
+    }
+    for Asked { name, queries, .. } in asked.iter().filter(|row| row.place != Where::Transition) {
+        let times =
+            timing::each(queries, QUERY_EFFORT, desk::library_standing, desk::port_standing);
+        rows.push(Row { name: format!("standing, {name}"), counted: "inputs", times });
+    }
+    Section { letter: "c", title: "Queries", rows }
+}
+
+/// The programs, each run's time shared out over its frames.
+pub fn programs(changer: &str, port: &str, frames: &str, count: usize) -> io::Result<Section> {
+    let Times { library, port } = program::times(changer, port, frames, RUNS)?;
+    let shared = |times: Vec<f64>| times.into_iter().map(|time| time / count as f64).collect();
+    let times = Times { library: shared(library), port: shared(port) };
+    let name = format!("whole process on {count} frames, time of a frame");
+    let rows = vec![Row { name, counted: "runs", times }];
+    Ok(Section { letter: "d", title: "The programs", rows })
+}

@@ -1,0 +1,92 @@
+//! The figures as markdown tables, and the goals.
+
+use crate::timing::Times;
+
+/// The largest ratio of medians, library to port, that is a goal met.
+const RATIO: f64 = 1.0;
+
+/// One row: what was measured, in what (inputs, passes or runs), and its times.
+pub struct Row {
+    pub name: String,
+    pub counted: &'static str,
+    pub times: Times,
+}
+
+/// The rows under one heading.
+pub struct Section {
+    pub letter: &'static str,
+    pub title: &'static str,
+    pub rows: Vec<Row>,
+}
+
+/// The median and the worst of some times, in microseconds.
+pub struct Summary {
+    pub median: f64,
+    pub worst: f64,
+}
+
+/// The median and the worst.
+fn summary(times: &[f64]) -> Summary {
+    let mut sorted = times.to_vec();
+    sorted.sort_by(f64::total_cmp);
+    let micros = |index: usize| sorted[index] / 1000.0;
+    Summary { median: micros(sorted.len() / 2), worst: micros(sorted.len() - 1) }
+}
+
+impl Row {
+    /// The library's figures.
+    pub fn library(&self) -> Summary {
+        summary(&self.times.library)
+    }
+
+    /// The ratio of the medians, library to port.
+    fn ratio(&self) -> f64 {
+        self.library().median / summary(&self.times.port).median
+    }
+
+    /// Prints the row.
+    fn print(&self) {
+        let (library, port) = (self.library(), summary(&self.times.port));
+        let count = self.times.library.len();
+        print!("| {} | {count} {} ", self.name, self.counted);
+        print!("| {:.3} | {:.3} | {:.2} ", library.median, port.median, self.ratio());
+        println!(
+            "| {:.3} | {:.3} | {:.2} |",
+            library.worst,
+            port.worst,
+            library.worst / port.worst
+        );
+    }
+}
+
+impl Section {
+    /// Prints the table; times are in microseconds, ratios library to port.
+    pub fn print(&self) {
+        println!("\n### ({}) {}\n", self.letter, self.title);
+        print!("| | measured | median, library | median, port | ratio ");
+        println!("| worst, library | worst, port | ratio |");
+        println!("|---|---|---|---|---|---|---|---|");
+        self.rows.iter().for_each(Row::print);
+    }
+}
+
+/// Prints the head of the goals' table.
+pub fn goals_head() {
+    println!("\n### Goals\n\n| Goal | at most | here | |\n|---|---|---|---|");
+}
+
+/// Prints a goal that a figure may not exceed.
+pub fn goal(name: &str, figure: f64, most: f64) {
+    let verdict = if figure <= most { "met" } else { "missed" };
+    println!("| {name} | {most} | {figure:.2} | {verdict} |");
+}
+
+/// Prints for each row whether the library is no slower than the port.
+pub fn ratio_goals(sections: &[Section]) {
+    for section in sections {
+        for row in &section.rows {
+            let name = format!("ratio of medians, ({}) {}", section.letter, row.name);
+            goal(&name, row.ratio(), RATIO);
+        }
+    }
+}
