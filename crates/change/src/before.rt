@@ -4,7 +4,7 @@ ghost use mathlib.Core.Path.{_≡_};
 ghost use Prim.Native.Nat.{_≤_};
 ghost use Rattle.change.specs.Change.{startPlan};
 ghost use Rattle.change.specs.Coded.{lowestOf, readingOf, refusalFirst, entering, isBehind};
-ghost use Rattle.change.specs.Stages.{askedBound, startEntries, overfull, behind, stageOverfull};
+ghost use Rattle.change.specs.Stages.{askedBound, overfull, behind, stageOverfull};
 ghost use Rattle.timetable.specs.Sound.{entryInRange, isSound};
 ghost use Rattle.timetable.specs.Timetable.{isListed};
 use crate::Lowest;
@@ -13,7 +13,6 @@ use records::ReadRequest;
 use records::Reading;
 use records::Refusal;
 use records::Request;
-use slots::CoreSlot;
 use timetable::Entry;
 use timetable::Timetable;
 use transition::Plan;
@@ -39,15 +38,27 @@ pub fn refusal_first(t: Timetable, read: ReadRequest, area: usize) -> Reading
     Reading::Whole
 }
 
-// The plan of length 0: no transition slot, and the shortfalls at the request slot.
+// The plan of length 0: no transition slot, and each id's entry with its shortfall at the request slot.
 pub fn start_plan(t: Timetable, asked: Request) -> Plan
     requires { ⌜ isSound t ≡ true ⌝ }
     requires { ⌜ t .base .0 ≤ asked .slot .0 ⌝ }
     ensures { λ r. ⌜ r ≡ startPlan t asked ⌝ }
 {
-    let slot = asked.slot;
-    let asks = asked.asks;
-    let entries = start_entries(t, slot, asks);
+    let elapsed = asked.slot.0 - t.base.0;
+    let none = Entry {
+        period: 0,
+        offset: 0,
+        bound: 0,
+        shortfall: 0,
+    };
+    let mut entries = [none; Timetable::IDS];
+    let mut id: usize = 0;
+    while id < Timetable::IDS {
+        let old = t.entries[id];
+        let ask = asked.asks[id];
+        entries[id] = enter(old, elapsed, ask);
+        id += 1;
+    }
     Plan {
         owners: [0; Timetable::LONGEST],
         entries,
@@ -65,34 +76,6 @@ pub fn refusal_listed(entries: [Entry; Timetable::IDS]) -> Reading
         return Reading::Refused(Refusal::of(Refusal::BEHIND, id));
     }
     Reading::Whole
-}
-
-// The entries at the request slot.
-fn start_entries(
-    t: Timetable,
-    slot: CoreSlot,
-    asks: [Ask; Timetable::IDS],
-) -> [Entry; Timetable::IDS]
-    requires { ⌜ isSound t ≡ true ⌝ }
-    requires { ⌜ t .base .0 ≤ slot .0 ⌝ }
-    ensures { λ r. ⌜ r ≡ startEntries t slot asks ⌝ }
-{
-    let elapsed = slot.0 - t.base.0;
-    let none = Entry {
-        period: 0,
-        offset: 0,
-        bound: 0,
-        shortfall: 0,
-    };
-    let mut entries = [none; Timetable::IDS];
-    let mut id: usize = 0;
-    while id < Timetable::IDS {
-        let old = t.entries[id];
-        let ask = asks[id];
-        entries[id] = enter(old, elapsed, ask);
-        id += 1;
-    }
-    entries
 }
 
 // The entry with which an id enters the change: the new period and bound, with the shortfall that it has; nothing where it is not asked for.

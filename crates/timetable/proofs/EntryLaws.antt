@@ -1,17 +1,18 @@
 -- The figures of one entry, as they are worked out: what a period of 0 makes of them, and the closed forms with their ranges. Assumes nothing.
 use borrow.Author.Tests.{lt-ltb, le-ltb}
 use lib.Bits.{and-mask, bitAnd}
+use lib.Count.{trailingZeros}
 use lib.Dec.{eqb, ltb}
 use mathlib.Core.Bool.{Bool, true, false, _&&_}
 use mathlib.Core.Path.{_≡_, refl, sym, ap, _∙_}
 use native.Mathlib.Decide.{decLt}
 use native.Mathlib.Nat.{add-mul, mul-assoc, div-zero, div-le-self, div-lt-iff-lt-mul, min-eq-left, min-eq-right, mod-lt, mul-comm, mul-div-mul-right, mul-le-mul, mul-le-mul-right, mul-lt-mul-of-pos-right}
 use native.Mathlib.Omega.{arith}
-use Prim.Native.Nat.{ℕ, _+_, _-_, _*_, _/_, _%_, _≤_, _<_}
+use Prim.Native.Nat.{ℕ, _+_, _-_, _*_, _/_, _%_, _^_, _≤_, _<_}
 use Rattle.slots.specs.Limits.{WHOLE, LARGEST-BOUND}
 use Rattle.slots.specs.Shortfall.{keeps, weightOf, roomOf, lastOffsetOf}
 use Rattle.timetable.proofs.Cycle.{shortfall-before, shortfall-after, weight-pos}
-use Rattle.timetable.proofs.Ranges.{InRange, Period, in-range-from, period-le, period-pos, period-whole}
+use Rattle.timetable.proofs.Ranges.{InRange, Period, in-range-from, period-le, period-pos, period-whole, period-zeros}
 use Rattle.timetable.specs.declared.Entry.{Entry}
 use Rattle.timetable.specs.Sound.{entryInRange}
 use Rattle.timetable.specs.Timetable.{weight, room, cyclic, shortfallAfter}
@@ -35,10 +36,10 @@ pub weight-is : (p : ℕ) → weightOf p ≡ WHOLE / p
 unfolding weightOf
 weight-is p = refl
 
--- A line of the table of weights.
-pub weight-at : (p q w : ℕ) → p ≡ q → w ≡ WHOLE / q → w ≡ weightOf p
+-- A shift by the zeros of a period divides by it.
+pub weight-shift : (p : ℕ) → Period p → WHOLE / 2 ^ trailingZeros 16 p ≡ weightOf p
 unfolding weightOf
-weight-at p q w e h = h ∙ ap (λ (x : ℕ). WHOLE / x) (sym e)
+weight-shift p r = ap (λ (x : ℕ). WHOLE / x) (period-zeros p r .1)
 
 pub weight-le : (p : ℕ) → weightOf p ≤ WHOLE
 unfolding weightOf

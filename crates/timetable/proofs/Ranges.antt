@@ -1,13 +1,14 @@
 -- What the range of an entry tells: its period is a power of two that divides 256, its bound is kept. Assumes nothing.
 use borrow.Author.Tests.{lt-ltb, le-leb, eq-eqb, ltb-true, leb-true, eqb-true, not-true, not-false}
+use lib.Count.{trailingZeros}
 use lib.Dec.{eqb}
 use lib.Pow.{pow-add, pow-lt, pow-mono, pow-pos}
 use mathlib.Core.Bool.{Bool, true, false, not, _&&_}
-use mathlib.Core.Path.{_≡_, refl, ap₂}
+use mathlib.Core.Path.{_≡_, refl, sym, ap, ap₂, _∙_}
 use native.Mathlib.Decide.{decLe}
-use native.Mathlib.Nat.{add-sub-of-le, dvd-mul-right, lt-of-not-le, mul-div-cancel'}
+use native.Mathlib.Nat.{add-sub-of-le, dvd-mul-right, lt-of-not-le, mul-div-cancel, mul-div-cancel', mul-mod-left, pow-suc}
 use native.Mathlib.Omega.{arith}
-use Prim.Native.Nat.{ℕ, suc, _+_, _-_, _*_, _^_, _≤_, _<_, _∣_}
+use Prim.Native.Nat.{ℕ, zero, suc, _+_, _-_, _*_, _/_, _%_, _^_, _≤_, _<_, _∣_}
 use Rattle.slots.proofs.Below.{and-both, every-at, every-fails, true-false}
 use Rattle.slots.specs.Below.{every}
 use Rattle.slots.specs.Limits.{WHOLE, LARGEST-BOUND, LARGEST-K}
@@ -54,6 +55,23 @@ period-divides p r = period-dvd p WHOLE r (record { k = 8; small = omega arith; 
 pub period-whole : (p : ℕ) → Period p → p * weightOf p ≡ WHOLE
 unfolding weightOf
 period-whole p r = mul-div-cancel' p (period-divides p r)
+
+-- The zeros below the one of 2^k are k,
+zeros-power : (d k : ℕ) → k < d → trailingZeros d (2 ^ k) ≡ k
+unfolding trailingZeros
+zeros-power zero k h = absurd (omega arith)
+zeros-power (suc d) zero h = refl
+zeros-power (suc d) (suc k) h =
+    let e : 2 ^ suc k ≡ 2 ^ k * 2 = pow-suc 2 k in
+    let z : 2 ^ suc k % 2 ≡ 0 = ap (λ (x : ℕ). x % 2) e ∙ mul-mod-left (2 ^ k) 2 in
+    let q : 2 ^ suc k / 2 ≡ 2 ^ k = ap (λ (x : ℕ). x / 2) e ∙ mul-div-cancel (2 ^ k) (omega arith) in
+    rw (z, q) (ap suc (zeros-power d k (omega arith)))
+
+-- so those of a period tell it.
+pub period-zeros : (p : ℕ) → Period p → (trailingZeros 16 p ≤ LARGEST-K) × (2 ^ trailingZeros 16 p ≡ p)
+period-zeros p r =
+    let z : trailingZeros 16 p ≡ r .k = ap (λ (x : ℕ). trailingZeros 16 x) (r .power) ∙ zeros-power 16 (r .k) (omega (arith, r .small)) in
+    (omega (arith, z, r .small), ap (λ (x : ℕ). 2 ^ x) z ∙ sym (r .power))
 
 -- What a listed entry in range says.
 pub record InRange (e : Entry) : Type 0 where

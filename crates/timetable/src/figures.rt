@@ -8,6 +8,7 @@ ghost use Rattle.timetable.specs.Sound.{entryInRange, isPeriod};
 ghost use Rattle.timetable.specs.Timetable.{isListed, weight, room, lastOffset, cyclic, shortfallAfter, slicesAfter};
 use crate::Entry;
 use crate::Timetable;
+use crate::soundness::is_period;
 use slots::SliceCount;
 
 impl Entry {
@@ -18,24 +19,18 @@ impl Entry {
         0 < self.period
     }
 
-    // Its weight, 256 / period; 0 for an entry that is not listed. A table spares the division for every period in range.
+    // Its weight, 256 / period; 0 for an entry that is not listed. A period in range is a power of two, and a shift divides by it.
     pub fn weight(self) -> u16
         ensures { λ r. ⌜ r ≡ weight self ⌝ }
     {
         let p = self.period;
-        match p {
-            1 => 256,
-            2 => 128,
-            4 => 64,
-            8 => 32,
-            16 => 16,
-            32 => 8,
-            64 => 4,
-            128 => 2,
-            256 => 1,
-            0 => 0,
-            _ => Timetable::WHOLE / p,
+        if is_period(p) {
+            return Timetable::WHOLE >> u16::trailing_zeros(p);
         }
+        if p == 0 {
+            return 0;
+        }
+        Timetable::WHOLE / p
     }
 
     // Its room: the further idle slots it can bear. Dividing by the weight, 256 / period, is multiplying by the period and dividing by 256.

@@ -179,7 +179,7 @@ fn take_slots(taken: &mut [bool; WHOLE], e: Entry) -> bool
 }
 
 // A period is a power of two from 1 to 256.
-fn is_period(p: u16) -> bool
+pub fn is_period(p: u16) -> bool
     ensures { λ r. ⌜ r ≡ isPeriod p ⌝ }
 {
     match p {

@@ -1,20 +1,93 @@
--- `start_plan` takes the entries at the request slot, and no owner. Assumes nothing.
+-- `start_plan` meets its contract: the loop's invariant is that each id below `id` has entered, with its shortfall at the request slot. Assumes nothing.
+use borrow.Author.Needs.{needs}
 use lib.ListN.{replicate}
 use mathlib.Core.List.{List}
-use mathlib.Core.Path.{ap}
+use mathlib.Core.Path.{_≡_, refl, ap}
+use native.Mathlib.Omega.{arith}
+use Prim.Native.Nat.{_-_, _≤_}
+use Rattle.change.proofs.StageSteps.{listed-in-range, entered, entered-next, entered-all}
 use Rattle.change.specs.Change.{startPlan}
-use Rattle.slots.specs.Limits.{LONGEST}
+use Rattle.slots.specs.Limits.{IDS, LONGEST}
 use Rattle.timetable.specs.declared.Entry.{Entry}
+use Rattle.timetable.specs.Timetable.{each}
 use Rattle.transition.specs.declared.Plan.{Plan}
 use Rattle.change.proofs.before.start_plan.Statement.{statement}
 use Rattle.change.proofs.before.start_plan.Tie as tie
 
-start-entries-requires : tie.Need-start-entries-requires
-start-entries-requires c κs = c .before .before .pre
+abbrev Inv-loop : tie.InvT-loop
+Inv-loop t asked elapsed entries₀ id₀ entries id = (id ≤ IDS) × (entries ≡ entered t (asked .asks) elapsed id)
 
-returns : tie.Need-returns
+abbrev μ-loop : tie.MeasureT-loop
+μ-loop t asked elapsed entries₀ id₀ entries id = IDS - id
+
+sub-elapsed : tie.Need-sub-elapsed Inv-loop μ-loop
+sub-elapsed c = c .pre .1
+
+loop-holds : tie.Need-loop-holds Inv-loop μ-loop
+unfolding each
+loop-holds c = (omega arith, refl)
+
+mul-old : tie.Need-mul-old Inv-loop μ-loop
+mul-old c = search needs
+
+element-copy-out-old : tie.Need-element-copy-out-old Inv-loop μ-loop
+element-copy-out-old c = search needs
+
+mul-ask : tie.Need-mul-ask Inv-loop μ-loop
+mul-ask c = search needs
+
+element-copy-out-ask : tie.Need-element-copy-out-ask Inv-loop μ-loop
+element-copy-out-ask c = search needs
+
+enter-requires : tie.Need-enter-requires Inv-loop μ-loop
+enter-requires c κs =
+    let i = c .before .before in
+    let s = i .before .before in
+    listed-in-range (s .args .t1) (s .pre .0) (i .before .loop .id) (i .loop-test .taken)
+
+mul-entries : tie.Need-mul-entries Inv-loop μ-loop
+mul-entries c = search needs
+
+array-set-from-entries : tie.Need-array-set-from-entries Inv-loop μ-loop
+array-set-from-entries c = search needs
+
+add-id : tie.Need-add-id Inv-loop μ-loop
+add-id c = search needs
+
+loop-less : tie.Need-loop-less Inv-loop μ-loop
+loop-less c = omega arith
+
+loop-again : tie.Need-loop-again Inv-loop μ-loop
+loop-again c =
+    let i = c .before .before .before in
+    let l = i .before .loop in
+    let a = i .before .before .args in
+    (omega (arith, i .loop-test .taken), entered-next (a .t1) (a .t2 .asks) _ (l .id) (l .entries) (c .enter .result) (l .inv .1) (c .enter .ensures))
+
+returns : tie.Need-returns Inv-loop μ-loop
 unfolding startPlan
-returns c = ap {B = Plan} (λ (es : List Entry). record { owners = replicate LONGEST 0; entries = es }) (c .start-entries .ensures)
+returns c =
+    let l = c .before .loop in
+    let a = c .before .before .args in
+    ap {B = Plan} (λ (es : List Entry). record { owners = replicate LONGEST 0; entries = es })
+    (entered-all (a .t1) (a .t2 .slot) (a .t2 .asks) (l .entries) (l .id) (c .loop-test .left) (l .inv .0) (l .inv .1))
 
 pub start-plan-spec : {M : Type 1} → statement M
-start-plan-spec = tie.close (tie.spec start-entries-requires returns)
+start-plan-spec =
+    tie.close
+    (tie.spec
+    Inv-loop
+    μ-loop
+    sub-elapsed
+    loop-holds
+    mul-old
+    element-copy-out-old
+    mul-ask
+    element-copy-out-ask
+    enter-requires
+    mul-entries
+    array-set-from-entries
+    add-id
+    loop-less
+    loop-again
+    returns)

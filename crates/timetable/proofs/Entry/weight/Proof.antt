@@ -1,58 +1,38 @@
--- `weight` reads the table, whose every line is 256 / period, and divides for any other period. Assumes nothing.
-use mathlib.Core.Path.{refl, sym}
-use Rattle.timetable.proofs.EntryLaws.{not-zero, weight-none, weight-is, weight-at}
+-- `weight` shifts by the zeros of a period in range, and divides by any other. Assumes nothing.
+use borrow.Author.Needs.{needs}
+use mathlib.Core.Path.{sym, _∙_}
+use native.Mathlib.Omega.{arith}
+use Rattle.timetable.proofs.EntryLaws.{weight-none, weight-is, weight-shift}
+use Rattle.timetable.proofs.Ranges.{Period, period-from, period-zeros}
 use Rattle.timetable.proofs.Entry.weight.Statement.{statement}
 use Rattle.timetable.proofs.Entry.weight.Tie as tie
 
-div-result : tie.Need-div-result
-div-result c = not-zero (c .before .args .self .period) (c .match .rest .1)
+-- What the test says of the period.
+period : (c : tie.Then1) → Period (c .before .before .args .self .period)
+period c = period-from (c .before .before .args .self .period) (sym (c .before .is-period .ensures) ∙ c .if1 .taken)
+
+is-period-requires : tie.Need-is-period-requires
+is-period-requires c κs = search needs
+
+cast-result : tie.Need-cast-result
+cast-result c = omega (arith, period-zeros (c .before .before .args .self .period) (period c) .0)
+
+shr-result : tie.Need-shr-result
+shr-result c = omega (arith, period-zeros (c .before .before .args .self .period) (period c) .0)
 
 returns : tie.Need-returns
-returns c = weight-at (c .before .args .self .period) _ _ (c .match .keys1) refl
+returns c = weight-shift (c .before .before .args .self .period) (period c)
 
 returns-2 : tie.Need-returns-2
-returns-2 c = weight-at (c .before .args .self .period) _ _ (c .match .keys2) refl
+returns-2 c = sym (weight-none (c .before .before .before .args .self .period) (c .if2 .taken))
+
+div-result : tie.Need-div-result
+div-result c = search needs
 
 returns-3 : tie.Need-returns-3
-returns-3 c = weight-at (c .before .args .self .period) _ _ (c .match .keys3) refl
-
-returns-4 : tie.Need-returns-4
-returns-4 c = weight-at (c .before .args .self .period) _ _ (c .match .keys4) refl
-
-returns-5 : tie.Need-returns-5
-returns-5 c = weight-at (c .before .args .self .period) _ _ (c .match .keys5) refl
-
-returns-6 : tie.Need-returns-6
-returns-6 c = weight-at (c .before .args .self .period) _ _ (c .match .keys6) refl
-
-returns-7 : tie.Need-returns-7
-returns-7 c = weight-at (c .before .args .self .period) _ _ (c .match .keys7) refl
-
-returns-8 : tie.Need-returns-8
-returns-8 c = weight-at (c .before .args .self .period) _ _ (c .match .keys8) refl
-
-returns-9 : tie.Need-returns-9
-returns-9 c = weight-at (c .before .args .self .period) _ _ (c .match .keys9) refl
-
-returns-10 : tie.Need-returns-10
-returns-10 c = sym (weight-none (c .before .args .self .period) (c .match .keys10))
-
-returns-11 : tie.Need-returns-11
-returns-11 c = sym (weight-is (c .before .args .self .period))
+returns-3 c = sym (weight-is (c .before .before .before .args .self .period))
 
 pub weight-spec : {M : Type 1} → statement M
 weight-spec =
     tie.close
-    (tie.spec
-    div-result
-    returns
-    returns-2
-    returns-3
-    returns-4
-    returns-5
-    returns-6
-    returns-7
-    returns-8
-    returns-9
-    returns-10
-    returns-11)
+    (tie.spec is-period-requires cast-result shr-result returns returns-2 div-result returns-3)
