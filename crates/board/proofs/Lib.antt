@@ -3,3 +3,4 @@ pub mod HeldLaws
 pub mod BoardLaws
 pub mod ReadBack
 pub mod KeptImage
+pub mod OneImage
