@@ -8,11 +8,13 @@ use mathlib.Core.Option.{none, some}
 use mathlib.Core.Path.{_≡_, sym, ap, _∙_, subst}
 use native.Mathlib.Omega.{arith}
 use Prim.Native.Nat.{ℕ, _%_, _≤_, _<_}
+use Rattle.placement.proofs.Asked.{last-inside}
 use Rattle.placement.proofs.Exchange.{Fair, Later, Serves}
 use Rattle.placement.proofs.Free.{In}
-use Rattle.placement.proofs.Greedy.{Right, laid-none, place-right}
+use Rattle.placement.proofs.Greedy.{Right, Ahead, laid-none, place-right}
 use Rattle.placement.proofs.Last.{range-kept, kept-last, last-range}
 use Rattle.placement.proofs.Order.{ordered-from, ordered-all, ordered-in-order}
+use Rattle.placement.proofs.Ranking.{rankOf}
 use Rattle.placement.proofs.Settle.{settle-at, settle-other}
 use Rattle.placement.specs.Any.{Lists, CyclicPlacement, chosen}
 use Rattle.placement.specs.Placement.{Demand, Place, demandOf, ordered, placement, settle}
@@ -48,7 +50,7 @@ module _ (es : List Entry) (r : Ranged es) where
   unfolding demandOf
   demand-fair i k l =
       let e = r .listed i k l in
-      (e .period, last-range (entryOf es i) e (lastOffset (entryOf es i)) (omega arith) .inside)
+      (e .period, last-inside (entryOf es i) e, k)
 
   -- Rule 4's answer for the entries is right.
   placement-right : Right (demands es) [] (demands es) (placement es)
@@ -85,7 +87,7 @@ module _ (es : List Entry) (r : Ranged es) where
   pub placement-none : placement es ≡ none → (offsets : ℕ → ℕ) → CyclicPlacement es offsets → ⊥
   placement-none h offsets c = subst (Right (demands es) [] (demands es)) h placement-right offsets (placed-serves offsets c)
 
--- The place that a listed id has got, and its entry at that place's offset.
+-- The place that a listed id has got, its entry at that place's offset, and that no larger offset is free beside those ahead.
 record Settled (es : List Entry) (ps : List Place) (i : ℕ) : Type 0 where
   place : Place
   inside : In place ps
@@ -93,6 +95,8 @@ record Settled (es : List Entry) (ps : List Place) (i : ℕ) : Type 0 where
   period : place .period ≡ entryOf es i .period
   last : place .offset ≤ lastOffset (entryOf es i)
   entry : entryOf (settle es ps) i ≡ withOffset (place .offset) (entryOf es i)
+  largest : (o : ℕ) → o ≤ lastOffset (entryOf es i)
+      → ((q : Place) → In q ps → Ahead (demands es) q (demandOf es i) → o % q .period ≢ q .offset) → o ≤ place .offset
 
 module _ (es : List Entry) (r : Ranged es) (size : length es ≡ IDS) (ps : List Place) (h : placement es ≡ some ps) where
   -- What rule 4 has placed is right.
@@ -104,25 +108,48 @@ module _ (es : List Entry) (r : Ranged es) (size : length es ≡ IDS) (ps : List
   unfolding demandOf
   settled i l =
       let w = right .2 (demandOf es i) (ordered-all es IDS i (l .0) (l .1)) in
-      let q : Place = w .0 in
-      let d = right .0 .of q (w .1) in
+      let q : Place = w .place in
+      let d = right .0 .of q (w .inside) in
       let a = asked es (d .0) (d .1) in
-      let e : d .0 .id ≡ i = sym (d .2 .0) ∙ w .2 in
-      let same : (x : Place) → In x ps → x .id ≡ q .id → x .offset ≡ q .offset = λ x m. right .0 .same x q m (w .1) in
+      let e : d .0 .id ≡ i = sym (d .2 .0) ∙ w .id in
+      let same : (x : Place) → In x ps → x .id ≡ q .id → x .offset ≡ q .offset = λ x m. right .0 .same x q m (w .inside) in
       record {
         place = q;
-        inside = w .1;
-        id = w .2;
+        inside = w .inside;
+        id = w .id;
         period = d .2 .1 ∙ a .period ∙ ap (λ (x : ℕ). entryOf es x .period) e;
         last = subst (λ (x : ℕ). q .offset ≤ lastOffset (entryOf es x)) e (subst (λ (x : ℕ). q .offset ≤ x) (a .last) (d .2 .2));
-        entry = rw (w .2) at (settle-at es ps q (w .1) (omega (arith, w .2, l .0)) same);
+        entry = rw (w .id) at (settle-at es ps q (w .inside) (omega (arith, w .id, l .0)) same);
+        largest = w .largest;
       }
+
+  -- A listed id's settled offset is that of its place.
+  settled-offset : (i : ℕ) (l : Lists es i) → entryOf (settle es ps) i .offset ≡ settled i l .place .offset
+  settled-offset i l = ap (λ (e : Entry). e .offset) (settled i l .entry)
+
+  -- It is at most the last offset,
+  pub settle-last : (i : ℕ) → Lists es i → entryOf (settle es ps) i .offset ≤ lastOffset (entryOf es i)
+  settle-last i l = rw (settled-offset i l) (settled i l .last)
+
+  -- and the largest up to there that lies in the class of no id of a smaller rank.
+  pub settle-largest : (i : ℕ) → Lists es i → (o : ℕ) → o ≤ lastOffset (entryOf es i)
+      → ((j : ℕ) → Lists es j → rankOf (demandOf es j) < rankOf (demandOf es i) → o % entryOf es j .period ≢ entryOf (settle es ps) j .offset)
+      → o ≤ entryOf (settle es ps) i .offset
+  settle-largest i l o le free = rw (settled-offset i l) (settled i l .largest o le beside)
+    where
+      beside : (q : Place) → In q ps → Ahead (demands es) q (demandOf es i) → o % q .period ≢ q .offset
+      beside q m w z =
+          let k = ordered-from es IDS (w .0) (w .1) in
+          let j : ℕ = w .0 .id in
+          let t = settled j (k .0, k .1) in
+          let p : q .period ≡ entryOf es j .period = w .2 .1 ∙ asked es (w .0) (w .1) .period in
+          free j (k .0, k .1) (subst (λ (d : Demand). rankOf d < rankOf (demandOf es i)) (k .2) (w .3))
+          (rw p at z ∙ right .0 .same q (t .place) m (t .inside) (w .2 .0 ∙ sym (t .id)) ∙ sym (settled-offset j (k .0, k .1)))
 
   -- Settling changes nothing but the offset of a listed id,
   pub settle-entry : (i : ℕ) → i < IDS → isListed (entryOf es i) ≡ true → entryOf (settle es ps) i ≡ withOffset (entryOf (settle es ps) i .offset) (entryOf es i)
   settle-entry i k l =
-      let s = settled i (k, l) in
-      s .entry ∙ ap (λ (o : ℕ). withOffset o (entryOf es i)) (ap (λ (e : Entry). e .offset) (sym (s .entry)))
+      settled i (k, l) .entry ∙ ap (λ (o : ℕ). withOffset o (entryOf es i)) (sym (settled-offset i (k, l)))
 
   -- and nothing of another id.
   pub settle-unlisted : (i : ℕ) → i < IDS → isListed (entryOf es i) ≡ false → entryOf (settle es ps) i ≡ entryOf es i
@@ -137,9 +164,7 @@ module _ (es : List Entry) (r : Ranged es) (size : length es ≡ IDS) (ps : List
   -- A listed id's entry is in range at its settled offset.
   settled-range : (i : ℕ) → Lists es i → InRange (chosen es (λ j. entryOf (settle es ps) j .offset) i)
   settled-range i l =
-      let s = settled i l in
-      let o : entryOf (settle es ps) i .offset ≡ s .place .offset = ap (λ (e : Entry). e .offset) (s .entry) in
-      rw o (last-range (entryOf es i) (r .listed i (l .0) (l .1)) (s .place .offset) (s .last))
+      last-range (entryOf es i) (r .listed i (l .0) (l .1)) (entryOf (settle es ps) i .offset) (settle-last i l)
 
   -- Rule 4's answer is a cyclic placement.
   pub placement-some : CyclicPlacement es (λ i. entryOf (settle es ps) i .offset)
@@ -154,8 +179,7 @@ module _ (es : List Entry) (r : Ranged es) (size : length es ≡ IDS) (ps : List
 
       in-class : (i : ℕ) (l : Lists es i) (n : ℕ) → cyclic (chosen es offsets i) n ≡ true → n % settled i l .place .period ≡ settled i l .place .offset
       in-class i l n c =
-          let s = settled i l in
-          rw (s .period) (cyclic-residue (chosen es offsets i) n c ∙ ap (λ (e : Entry). e .offset) (s .entry))
+          rw (settled i l .period) (cyclic-residue (chosen es offsets i) n c ∙ settled-offset i l)
 
       apart : (i j : ℕ) → Lists es i → Lists es j → i ≢ j → (n : ℕ) → cyclic (chosen es offsets i) n ≡ true → cyclic (chosen es offsets j) n ≡ true → ⊥
       apart i j li lj ne n c d =

@@ -8,20 +8,22 @@ use native.Mathlib.Nat.{div-add-mod', mod-eq-of-lt, mod-le, mod-mod-of-dvd, mul-
 use native.Mathlib.Omega.{arith}
 use Prim.Native.Nat.{ℕ, _+_, _-_, _*_, _/_, _%_, _≤_, _<_, _∣_}
 use Rattle.placement.proofs.Free.{In, Free, Divide, free-class}
+use Rattle.placement.proofs.Ranking.{rankOf}
 use Rattle.placement.specs.Placement.{Demand, Place}
+use Rattle.slots.specs.Limits.{IDS}
 use Rattle.timetable.proofs.Ranges.{Period, period-dvd}
 
 -- A demand's place at an offset.
 abbrev pub placeAt : Demand → ℕ → Place
 placeAt d o = record { id = d .id; period = d .period; offset = o }
 
--- A fair demand: its period is a power of two that divides 256, and its last offset is below its period.
+-- A fair demand: its period is a power of two that divides 256, its last offset is below its period, and its id is below 32.
 abbrev pub Fair : Demand → Type 0
-Fair d = Period (d .period) × (d .last < d .period)
+Fair d = Period (d .period) × (d .last < d .period) × (d .id < IDS)
 
--- e is another id's demand, and its period is no smaller than that of d.
+-- e is another id's demand, its period is no smaller than that of d, and its rank is larger.
 abbrev pub Later : Demand → Demand → Type 0
-Later d e = (d .id ≢ e .id) × (d .period ≤ e .period)
+Later d e = (d .id ≢ e .id) × (d .period ≤ e .period) × (rankOf d < rankOf e)
 
 -- The offsets, by id, serve the demands beside the places: none is beyond its last offset, none meets a place, no two meet.
 pub record Serves (ps : List Place) (ds : List Demand) (offsets : ℕ → ℕ) : Type 0 where

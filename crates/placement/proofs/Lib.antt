@@ -5,6 +5,7 @@ pub mod Greedy
 pub mod Last
 pub mod Settle
 pub mod Complete
+pub mod RuleFourLaws
 pub mod Table
 pub mod Ranking
 pub mod Asked

@@ -111,7 +111,7 @@ reached-none es h ranks count k taken s = record {
 }
   where
     fair : (i : ℕ) → i < IDS → isListed (entryOf es i) ≡ true → Fair (demandOf es i)
-    fair i l t = let e = listed-range es h i l (ltb-true 0 (entryOf es i .period) t) in (e .period, last-inside (entryOf es i) e)
+    fair i l t = let e = listed-range es h i l (ltb-true 0 (entryOf es i .period) t) in (e .period, last-inside (entryOf es i) e, l)
 
 -- The next of the demands.
 drop-map : (i : ℕ) (ss : List ℕ) → drop i (map demandAt ss) ≡ map demandAt (drop i ss)

@@ -22,3 +22,7 @@ pub record CyclicPlacement (es : List Entry) (offsets : ℕ → ℕ) : Type 0 wh
   pub below : (i : ℕ) → Lists es i → offsets i < entryOf es i .period
   pub apart : (i j : ℕ) → Lists es i → Lists es j → i ≢ j → (n : ℕ) → cyclic (chosen es offsets i) n ≡ true → cyclic (chosen es offsets j) n ≡ true → ⊥
   pub kept : (i : ℕ) → Lists es i → (n : ℕ) → shortfallAfter (chosen es offsets i) n < WHOLE * entryOf es i .bound
+
+-- No cyclic placement at all keeps the bounds from these entries on.
+abbrev pub NoPlacement : List Entry → Type 0
+NoPlacement es = (offsets : ℕ → ℕ) → CyclicPlacement es offsets → ⊥

@@ -1,3 +1,4 @@
 pub mod Placement
 pub mod Any
 pub mod Placed
+pub mod RuleFour
