@@ -5,3 +5,4 @@ pub mod Reach
 pub mod Walk
 pub mod StepLaws
 pub mod SearchLaws
+pub mod RuleThreeLaws

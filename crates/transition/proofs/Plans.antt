@@ -20,8 +20,9 @@ use Rattle.timetable.proofs.Ranges.{InRange}
 use Rattle.timetable.proofs.Sound.{Ranged}
 use Rattle.timetable.specs.declared.Entry.{Entry}
 use Rattle.timetable.specs.Timetable.{noEntry, entryOf, isListed, weight, withShortfall}
-use Rattle.transition.proofs.UrgentRule.{MostUrgent, Told, told, unmissed, room-bears, own-bears}
+use Rattle.transition.proofs.UrgentRule.{Told, told, unmissed, room-bears, own-bears}
 use Rattle.transition.specs.declared.Plan.{Plan}
+use Rattle.transition.specs.RuleThree.{GoesTo, MostUrgent}
 use Rattle.transition.specs.Transition.{mostUrgent, isMissed, overAll, longer}
 
 -- ---- one slot
@@ -51,24 +52,28 @@ module _ (es : List Entry) (u : ℕ) where
           (List·getD-eq-default (overAll es u) noEntry (omega (arith, len, length-over))
           ∙ sym (List·getD-eq-default es noEntry (omega (arith, len))))
 
-  -- A slot that goes to the most urgent id and is not missed keeps every bound.
-  pub over-ranged : length es ≡ IDS → Ranged es → ((i : ℕ) → i < IDS → entryOf es i .offset ≡ 0) → MostUrgent es IDS u → isMissed es u ≡ false
-      → Ranged (overAll es u)
+  -- A slot that goes to the most urgent id, every other having room for it, keeps each bound,
+  pub goes-bears : Ranged es → GoesTo es u → (i : ℕ) → Lists es i
+      → overSlot (eqb i u) (weight (entryOf es i)) (entryOf es i .shortfall) < WHOLE * entryOf es i .bound
   unfolding overSlot weightOf
-  over-ranged len r z m h = record { listed = listed; blank = blank }
+  goes-bears r g i l = at (r .listed i (l .0) (l .1)) (ℕ-discrete i u)
     where
-      -- the bound is kept over the slot
-      bears : (i : ℕ) → Lists es i → InRange (entryOf es i) → Dec (i ≡ u) → overSlot (eqb i u) (weight (entryOf es i)) (entryOf es i .shortfall) < WHOLE * entryOf es i .bound
-      bears i l q (yes e) = rw (eq-eqb i u e) (own-bears (entryOf es i) q)
-      bears i l q (no e) = rw (ne-eqb i u e) (room-bears (entryOf es i) q (unmissed es u h i l e))
+      at : InRange (entryOf es i) → Dec (i ≡ u) → overSlot (eqb i u) (weight (entryOf es i)) (entryOf es i .shortfall) < WHOLE * entryOf es i .bound
+      at q (yes e) = rw (eq-eqb i u e) (own-bears (entryOf es i) q)
+      at q (no e) = rw (ne-eqb i u e) (room-bears (entryOf es i) q (g .borne i l e))
 
+  -- so the entries stay in range.
+  pub over-ranged : length es ≡ IDS → Ranged es → ((i : ℕ) → i < IDS → entryOf es i .offset ≡ 0) → GoesTo es u → Ranged (overAll es u)
+  unfolding overSlot weightOf
+  over-ranged len r z g = record { listed = listed; blank = blank }
+    where
       over-in : (i : ℕ) → Lists es i → InRange (entryOf es i) → InRange (overEntry (eqb i u) (entryOf es i))
       over-in i l q = record {
         period = q .period;
         bound-low = q .bound-low;
         bound-high = q .bound-high;
         inside = q .inside;
-        kept = omega (arith, bears i l q (ℕ-discrete i u), ap (λ (x : ℕ). x * weight (entryOf es i)) (z i (l .0)));
+        kept = omega (arith, goes-bears r g i l, ap (λ (x : ℕ). x * weight (entryOf es i)) (z i (l .0)));
       }
 
       listed : (i : ℕ) → i < IDS → isListed (entryOf (overAll es u) i) ≡ true → InRange (entryOf (overAll es u) i)
@@ -79,7 +84,7 @@ module _ (es : List Entry) (u : ℕ) where
       blank : (i : ℕ) → i < IDS → isListed (entryOf (overAll es u) i) ≡ false → entryOf (overAll es u) i ≡ noEntry
       blank i k l =
           let li : isListed (entryOf es i) ≡ false = sym (over-listed len i) ∙ l in
-          let ne : i ≢ u = λ e. true-false (m .listed) (ap (λ (x : ℕ). isListed (entryOf es x)) (sym e) ∙ li) in
+          let ne : i ≢ u = λ e. true-false (g .urgent .listed) (ap (λ (x : ℕ). isListed (entryOf es x)) (sym e) ∙ li) in
           over-at len i k ∙ ap (λ (b : Bool). overEntry b (entryOf es i)) (ne-eqb i u ne) ∙ ap (overEntry false) (r .blank i k li) ∙ still
         where
           still : overEntry false noEntry ≡ noEntry
@@ -99,8 +104,7 @@ pub record Fit (n : ℕ) (plan : Plan) : Type 0 where
 -- One more transition slot, to u.
 pub record Step (n : ℕ) (plan next : Plan) : Type 0 where
   pub u : ℕ
-  pub urgent : MostUrgent (plan .entries) IDS u
-  pub clear : isMissed (plan .entries) u ≡ false
+  pub goes : GoesTo (plan .entries) u
   pub is : next ≡ record { owners = set (plan .owners) n u; entries = overAll (plan .entries) u }
 
 -- What one more slot tells: the step, or that nobody is listed, or that the most urgent id's slot is missed.
@@ -119,7 +123,7 @@ longer-told n plan = at (mostUrgent (plan .entries) IDS) (told (plan .entries) I
 
     goes : (u : ℕ) → MostUrgent (plan .entries) IDS u → (b : Bool) → isMissed (plan .entries) u ≡ b → Longer n plan (cond b none (some (next u)))
     goes u m true e = inr (u, m, e)
-    goes u m false e = record { u = u; urgent = m; clear = e; is = refl }
+    goes u m false e = record { u = u; goes = record { urgent = m; borne = unmissed (plan .entries) u e }; is = refl }
 
     at : (o : Option ℕ) → Told (plan .entries) IDS o
         → Longer n plan (elim o [ none ↦ none | some u ↦ cond (isMissed (plan .entries) u) none (some (next u)) ])
@@ -131,12 +135,12 @@ pub step-fit : (n : ℕ) (plan next : Plan) → n < LONGEST → Fit n plan → S
 step-fit n plan next k f s = subst (Fit (suc n)) (sym (s .is)) (record {
   entries = length-over (plan .entries) (s .u) ∙ f .entries;
   places = length-set (plan .owners) n (s .u) ∙ f .places;
-  ranged = over-ranged (plan .entries) (s .u) (f .entries) (f .ranged) (f .unplaced) (s .urgent) (s .clear);
+  ranged = over-ranged (plan .entries) (s .u) (f .entries) (f .ranged) (f .unplaced) (s .goes);
   unplaced = λ i l. ap (λ (e : Entry). e .offset) (over-at (plan .entries) (s .u) (f .entries) i l) ∙ f .unplaced i l;
   served = λ m l. over-listed (plan .entries) (s .u) (f .entries) _ ∙ served m l (ℕ-discrete m n);
   unused = λ m l. getD-set-other (plan .owners) n m (s .u) 0 (omega arith) ∙ f .unused m (omega arith);
 })
   where
     served : (m : ℕ) → m < suc n → Dec (m ≡ n) → isListed (entryOf (plan .entries) (getD (set (plan .owners) n (s .u)) m 0)) ≡ true
-    served m l (yes e) = rw (e, getD-set-same (plan .owners) n (s .u) 0 (omega (arith, f .places))) (s .urgent .listed)
+    served m l (yes e) = rw (e, getD-set-same (plan .owners) n (s .u) 0 (omega (arith, f .places))) (s .goes .urgent .listed)
     served m l (no e) = rw (getD-set-other (plan .owners) n m (s .u) 0 e) (f .served m (omega arith))

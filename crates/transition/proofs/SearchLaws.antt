@@ -108,7 +108,7 @@ ready-more n plan next len r e = subst (λ (p : Plan). (length (p .entries) ≡ 
 
     ready : Ready (record { owners = set (plan .owners) n (s .u); entries = overAll (plan .entries) (s .u) })
     ready = record {
-      ranged = ranged-is _ (over-ranged (plan .entries) (s .u) len (ranged-from _ (r .ranged)) (r .unplaced) (s .urgent) (s .clear));
+      ranged = ranged-is _ (over-ranged (plan .entries) (s .u) len (ranged-from _ (r .ranged)) (r .unplaced) (s .goes));
       unplaced = λ i l. ap (λ (x : Entry). x .offset) (over-at (plan .entries) (s .u) len i l) ∙ r .unplaced i l;
     }
 

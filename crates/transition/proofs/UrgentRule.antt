@@ -21,16 +21,10 @@ use Rattle.timetable.proofs.Sound.{Ranged}
 use Rattle.timetable.specs.declared.Entry.{Entry}
 use Rattle.timetable.specs.Timetable.{entryOf, isListed, weight, room}
 use Rattle.transition.specs.Reach.{AnyoneBreaks}
+use Rattle.transition.specs.RuleThree.{MostUrgent}
 use Rattle.transition.specs.Transition.{moreUrgent, mostUrgent, isMissed}
 
 -- ---- the most urgent
-
--- u is the most urgent of the ids below n: listed, with the least room, and less than any lower one's.
-pub record MostUrgent (es : List Entry) (n u : ℕ) : Type 0 where
-  pub below : u < n
-  pub listed : isListed (entryOf es u) ≡ true
-  pub least : (i : ℕ) → i < n → isListed (entryOf es i) ≡ true → room (entryOf es u) ≤ room (entryOf es i)
-  pub ties : (i : ℕ) → i < u → isListed (entryOf es i) ≡ true → room (entryOf es u) < room (entryOf es i)
 
 -- What the search for the most urgent id tells.
 abbrev pub Told : List Entry → ℕ → Option ℕ → Type 0

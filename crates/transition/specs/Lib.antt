@@ -1,3 +1,4 @@
 pub mod Transition
 pub mod Reach
 pub mod Coded
+pub mod RuleThree

@@ -4,7 +4,7 @@ use mathlib.Core.List.{List}
 use mathlib.Core.Option.{Option, none, some}
 use mathlib.Core.Path.{_≡_}
 use Prim.Native.Nat.{ℕ, zero, suc, _*_, _≤_, _<_}
-use Rattle.placement.specs.Any.{Lists, CyclicPlacement}
+use Rattle.placement.specs.Any.{CyclicPlacement, Lists, NoPlacement}
 use Rattle.placement.specs.Placement.{Place, placement}
 use Rattle.slots.specs.Below.{every}
 use Rattle.slots.specs.Limits.{WHOLE}
@@ -33,7 +33,7 @@ AnyoneBreaks es =
 -- Length n is passed over: it is reached, and no cyclic placement at all keeps the bounds from there.
 abbrev pub PassedOver : Plan → ℕ → Type 0
 PassedOver plan n =
-    (p : Plan) × (reach plan n ≡ some p) × ((offsets : ℕ → ℕ) → CyclicPlacement (p .entries) offsets → ⊥)
+    (p : Plan) × (reach plan n ≡ some p) × NoPlacement (p .entries)
 
 -- Length n has a cyclic placement: it is reached, and some choice of offsets keeps the bounds from there.
 abbrev pub HasPlacement : Plan → ℕ → Type 0
