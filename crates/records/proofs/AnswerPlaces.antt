@@ -1,111 +1,159 @@
--- Where an answer says what: first the transition's length, from byte 4 on its owners, then an offset field for each listed id, ids rising. Each field
--- starts where the one before ends, so a reader that knows the lengths finds every field. Assumes nothing.
-use lib.ListN.{drop, getD, length, length-drop, take}
-use lib.Seq.{drop-append-le, drop-at, drop-drop, getD-take, length-take-le}
+-- An answer that is written stands in the area field by field, and what stands so has one content: every byte of the area is in one field, or behind
+-- them all. Assumes nothing.
+use lib.ListN.{drop, getD, length, length-append, length-drop, List·getD-append, take}
+use lib.Seq.{ext-getD, getD-append-add, getD-drop, getD-take, length-take-le}
 use mathlib.Core.Bool.{Bool, true, false, cond}
-use mathlib.Core.List.{List, [], _∷_, _++_, append-assoc, append-nil}
+use mathlib.Core.List.{List, [], _∷_, _++_, append-assoc}
 use mathlib.Core.Path.{_≡_, refl, sym, ap, _∙_, subst}
-use native.Mathlib.Decide.{ℕ-discrete}
+use native.Mathlib.Decide.{ℕ-discrete, decLt}
+use native.Mathlib.Nat.{add-assoc, zero-add}
 use native.Mathlib.Omega.{arith}
-use Prim.Native.Nat.{ℕ, suc, _+_, _*_, _≤_, _<_}
-use Rattle.records.proofs.AnswerLaws.{listedCount, offsets-length}
-use Rattle.records.proofs.FieldStands.{after-stands, content-stands, field-stands}
+use Prim.Native.Nat.{ℕ, suc, _+_, _-_, _*_, _/_, _≤_, _<_}
+use Rattle.records.proofs.AnswerLaws.{answer-bytes, answer-length, answer-run, answerHead, offsets-length}
 use Rattle.records.specs.Answer.{answerRecord, field, offsetFields}
-use Rattle.records.specs.Request.{contentAt, isField}
-use Rattle.slots.proofs.Below.{true-false}
-use Rattle.slots.specs.Limits.{IDS}
+use Rattle.records.specs.AnswerForm.{AnswerStands, listedBelow, Stand}
+use Rattle.slots.proofs.Below.{count-reaches, count-rises, count-same, true-false}
+use Rattle.slots.specs.Limits.{AREA, IDS, LONGEST}
 use Rattle.timetable.specs.declared.Entry.{Entry}
 use Rattle.timetable.specs.Timetable.{entryOf, isListed}
 
--- The content of a listed id's offset field.
-abbrev pub offsetOf : List Entry → ℕ → List ℕ
-offsetOf es i = i ∷ entryOf es i .offset ∷ []
+-- Bytes stand at their own start.
+stand-first : (bytes t : List ℕ) → Stand (bytes ++ t) 0 bytes
+stand-first bytes t k h = rw zero-add (List·getD-append bytes t 0 k h)
+
+-- What stands in a list stands there whatever follows,
+stand-front : (s t bytes : List ℕ) (at : ℕ) → at + length bytes ≤ length s → Stand s at bytes → Stand (s ++ t) at bytes
+stand-front s t bytes at l x k h = List·getD-append s t 0 (at + k) (omega arith) ∙ x k h
+
+-- and further on behind another list.
+stand-behind : (s t bytes : List ℕ) (n at : ℕ) → length s ≡ n → Stand t at bytes → Stand (s ++ t) (n + at) bytes
+stand-behind s t bytes n at e x k h = rw (← e, add-assoc) (getD-append-add s t (at + k) 0 ∙ x k h)
+
+-- The offset field of an id, byte by byte.
+abbrev offsetBytes : List Entry → ℕ → List ℕ
+offsetBytes es i = 0x12 ∷ 0 ∷ 2 ∷ i ∷ entryOf es i .offset ∷ []
 
 -- Among the offset fields of the ids below m, a listed id's stands behind those of the lower listed ids, five bytes each.
-offset-from : (es : List Entry) (m i : ℕ) → i < m → isListed (entryOf es i) ≡ true
-    → (rest : List ℕ) × (drop (5 * listedCount es i) (offsetFields es m) ≡ field 0x12 (offsetOf es i) ++ rest)
+offset-from : (es : List Entry) (m i : ℕ) → i < m → isListed (entryOf es i) ≡ true → Stand (offsetFields es m) (5 * listedBelow es i) (offsetBytes es i)
 unfolding offsetFields field
 offset-from es (suc m) i h l = at (ℕ-discrete i m) (isListed (entryOf es m)) refl (λ k. offset-from es m i k l)
   where
-    at : Dec (i ≡ m) → (b : Bool) → isListed (entryOf es m) ≡ b
-        → (i < m → (rest : List ℕ) × (drop (5 * listedCount es i) (offsetFields es m) ≡ field 0x12 (offsetOf es i) ++ rest))
-        → (rest : List ℕ) × (drop (5 * listedCount es i) (offsetFields es m ++ cond b (field 0x12 (offsetOf es m)) []) ≡ field 0x12 (offsetOf es i) ++ rest)
-    at (yes z) true e ih = (
-      [],
-      rw z
-          (drop-at (offsetFields es m) (field 0x12 (offsetOf es m)) (5 * listedCount es m) (offsets-length es m)
-          ∙ sym (append-nil (field 0x12 (offsetOf es m)))),
-    )
+    at : Dec (i ≡ m) → (b : Bool) → isListed (entryOf es m) ≡ b → (i < m → Stand (offsetFields es m) (5 * listedBelow es i) (offsetBytes es i))
+        → Stand (offsetFields es m ++ cond b (offsetBytes es m) []) (5 * listedBelow es i) (offsetBytes es i)
+    at (yes z) true e ih =
+        subst (λ (x : ℕ). Stand (offsetFields es m ++ offsetBytes es m) (5 * listedBelow es x) (offsetBytes es x)) (sym z)
+        (rw (← (offsets-length es m)) (λ k h. getD-append-add (offsetFields es m) (offsetBytes es m) k 0))
     at (yes z) false e ih = absurd (true-false (ap (λ (x : ℕ). isListed (entryOf es x)) (sym z) ∙ l) e)
     at (no z) b e ih =
-        let w = ih (omega arith) in
-        let y : List ℕ = cond b (field 0x12 (offsetOf es m)) [] in (
-          w .0 ++ y,
-          drop-append-le (5 * listedCount es i) (offsetFields es m) y (inside (w .0) (w .1))
-              ∙ ap (λ (x : List ℕ). x ++ y) (w .1)
-              ∙ append-assoc (field 0x12 (offsetOf es i)) (w .0) y,
-        )
-      where
-        inside : (rest : List ℕ) → drop (5 * listedCount es i) (offsetFields es m) ≡ field 0x12 (offsetOf es i) ++ rest
-            → 5 * listedCount es i ≤ length (offsetFields es m)
-        inside rest q = omega (arith, length-drop (5 * listedCount es i) (offsetFields es m), ap (λ (x : List ℕ). length x) q)
+        let k : i < m = omega arith in
+        let c = count-rises (λ x. isListed (entryOf es x)) i m k l in
+        stand-front (offsetFields es m) _ (offsetBytes es i) _ (omega (arith, offsets-length es m)) (ih k)
 
-module _ (n : ℕ) (owners : List ℕ) (es : List Entry) (all : n ≤ length owners) where
-  -- The answer.
-  abbrev record-of : List ℕ
-  record-of = answerRecord n owners es
+module _ (size : ℕ) (owners : List ℕ) (es : List Entry) (small : size ≤ LONGEST) (enough : size ≤ length owners) (t : List ℕ) where
+  -- The owners and the offsets, and what follows.
+  abbrev tail : List ℕ
+  tail = take size owners ++ offsetFields es IDS ++ t
 
-  length-from : drop 0 record-of ≡ field 0x10 (n ∷ []) ++ (field 0x11 (take n owners) ++ offsetFields es IDS)
-  unfolding answerRecord
-  length-from = append-assoc (field 0x10 (n ∷ [])) (field 0x11 (take n owners)) (offsetFields es IDS)
+  -- The answer's bytes.
+  run : answerHead size ++ take size owners ++ offsetFields es IDS ≡ answerRecord size owners es
+  run = answer-run size owners es small enough
 
-  owners-from : drop 4 record-of ≡ field 0x11 (take n owners) ++ offsetFields es IDS
-  owners-from = after-stands record-of 0 0x10 (n ∷ []) (field 0x11 (take n owners) ++ offsetFields es IDS) length-from 4 refl
+  -- The transition's length stands first,
+  length-stands : Stand (answerRecord size owners es ++ t) 0 (0x10 ∷ 0 ∷ 1 ∷ size ∷ [])
+  length-stands = rw (← run) (stand-first (0x10 ∷ 0 ∷ 1 ∷ size ∷ []) (0x11 ∷ 0 ∷ size ∷ tail))
 
-  -- At its start stands a field of tag 10 hex and length 1, the transition's length.
-  pub length-field : isField record-of 0 0x10 1 ≡ true
-  length-field = field-stands record-of 0 0x10 (n ∷ []) (field 0x11 (take n owners) ++ offsetFields es IDS) length-from
+  -- behind it the owners' tag and length,
+  owners-stand : Stand (answerRecord size owners es ++ t) 4 (0x11 ∷ 0 ∷ size ∷ [])
+  owners-stand =
+      rw (← run) (stand-behind (0x10 ∷ 0 ∷ 1 ∷ size ∷ []) (0x11 ∷ 0 ∷ size ∷ tail) (0x11 ∷ 0 ∷ size ∷ []) 4 0 refl (stand-first (0x11 ∷ 0 ∷ size ∷ []) tail))
 
-  pub length-said : contentAt record-of 0 0 ≡ n
-  length-said = content-stands record-of 0 0x10 (n ∷ []) (field 0x11 (take n owners) ++ offsetFields es IDS) length-from 0 (omega arith)
+  -- the owners,
+  owner-stands : (k : ℕ) → k < size → getD (answerRecord size owners es ++ t) (7 + k) 0 ≡ getD owners k 0
+  owner-stands k h =
+      let o = length-take-le size owners enough in
+      rw (← run)
+      (getD-append-add (answerHead size) tail k 0
+      ∙ ap (λ (z : List ℕ). getD z k 0) (append-assoc (take size owners) (offsetFields es IDS) t)
+      ∙ List·getD-append (take size owners) (offsetFields es IDS ++ t) 0 k (omega arith)
+      ∙ getD-take size owners k 0 h)
 
-  -- Behind it stands a field of tag 11 hex with one byte for each transition slot, also where there is none.
-  pub owners-field : isField record-of 4 0x11 n ≡ true
-  owners-field =
-      subst (λ (x : ℕ). isField record-of 4 0x11 x ≡ true) (length-take-le n owners all)
-      (field-stands record-of 4 0x11 (take n owners) (offsetFields es IDS) owners-from)
+  -- and each listed id's offset field behind those of the lower listed ids.
+  offset-stands : (i : ℕ) → i < IDS → isListed (entryOf es i) ≡ true
+      → Stand (answerRecord size owners es ++ t) (7 + size + 5 * listedBelow es i) (offsetBytes es i)
+  offset-stands i k l =
+      let o = length-take-le size owners enough in
+      let c = count-rises (λ x. isListed (entryOf es x)) i IDS k l in
+      rw (← run)
+      (stand-front (answerHead size ++ take size owners ++ offsetFields es IDS) t (offsetBytes es i) (7 + size + 5 * listedBelow es i)
+      (omega (arith, length-append (take size owners) (offsetFields es IDS), offsets-length es IDS))
+      (stand-behind (answerHead size ++ take size owners) (offsetFields es IDS) (offsetBytes es i) (7 + size) (5 * listedBelow es i) (omega arith)
+      (offset-from es IDS i k l)))
 
-  -- Each transition slot's byte is its owner.
-  pub owner-said : (k : ℕ) → k < n → contentAt record-of 4 k ≡ getD owners k 0
-  owner-said k h =
-      content-stands record-of 4 0x11 (take n owners) (offsetFields es IDS) owners-from k (omega (arith, length-take-le n owners all)) ∙ getD-take n owners k 0 h
+-- An answer that is written stands so.
+pub answer-stands : (size : ℕ) (owners : List ℕ) (es : List Entry) (before : List ℕ) → size ≤ LONGEST → size ≤ length owners → AREA ≤ length before
+    → AnswerStands before size owners es (length (answerRecord size owners es))
+    (answerRecord size owners es ++ drop (length (answerRecord size owners es)) before)
+answer-stands size owners es before small enough room =
+    let r = answerRecord size owners es in
+    let t = drop (length r) before in
+    record {
+      length-field = length-stands size owners es small enough t;
+      owners-field = owners-stand size owners es small enough t;
+      owner = owner-stands size owners es small enough t;
+      offset-field = offset-stands size owners es small enough t;
+      bytes = omega (arith, answer-bytes size owners es, length-take-le size owners enough);
+      rest = λ n h.
+          let e : n ≡ length r + (n - length r) = omega arith in
+          rw e (getD-append-add r t (n - length r) 0 ∙ getD-drop (length r) before (n - length r) 0);
+      same = simp (length-append, length-drop) (omega (arith, answer-length size owners es small));
+    }
 
-  -- A listed id's offset field stands behind the owners and the fields of the lower listed ids.
-  module _ (i : ℕ) (k : i < IDS) (l : isListed (entryOf es i) ≡ true) where
-    place : ℕ
-    place = 7 + n + 5 * listedCount es i
+-- What stands in two areas at one place is the same there.
+agree : (a b bytes : List ℕ) (at : ℕ) → Stand a at bytes → Stand b at bytes → (j : ℕ) → at ≤ j → j < at + length bytes → getD a j 0 ≡ getD b j 0
+agree a b bytes at x y j l h =
+    let e : j ≡ at + (j - at) = omega arith in
+    rw e (x (j - at) (omega arith) ∙ sym (y (j - at) (omega arith)))
 
-    stands : (rest : List ℕ) × (drop place record-of ≡ field 0x12 (offsetOf es i) ++ rest)
-    unfolding place
-    stands =
-        let w = offset-from es IDS i k l in
-        let d : drop (7 + n) record-of ≡ offsetFields es IDS =
-        after-stands record-of 4 0x11 (take n owners) (offsetFields es IDS) owners-from (7 + n) (omega (arith, length-take-le n owners all)) in (
-          w .0,
-          sym (drop-drop (5 * listedCount es i) (7 + n) record-of) ∙ ap (λ (x : List ℕ). drop (5 * listedCount es i) x) d ∙ w .1,
-        )
+module _ (before : List ℕ) (size : ℕ) (owners : List ℕ) (es : List Entry) (w v : ℕ) (a b : List ℕ) (x : AnswerStands before size owners es w a)
+    (y : AnswerStands before size owners es v b) where
+  -- Every byte of the two areas is the same: it is in one of the fields, or behind them all.
+  byte : (j : ℕ) → Dec (j < 4) → Dec (j < 7) → Dec (j < 7 + size) → Dec (j < w) → getD a j 0 ≡ getD b j 0
+  byte j (yes p) q r s = agree a b (0x10 ∷ 0 ∷ 1 ∷ size ∷ []) 0 (x .length-field) (y .length-field) j (omega arith) (omega arith)
+  byte j (no p) (yes q) r s = agree a b (0x11 ∷ 0 ∷ size ∷ []) 4 (x .owners-field) (y .owners-field) j (omega arith) (omega arith)
+  byte j (no p) (no q) (yes r) s =
+      let e : j ≡ 7 + (j - 7) = omega arith in
+      rw e (x .owner (j - 7) (omega arith) ∙ sym (y .owner (j - 7) (omega arith)))
+  byte j (no p) (no q) (no r) (yes s) =
+      let f = count-reaches (λ i. isListed (entryOf es i)) IDS ((j - (7 + size)) / 5) (omega arith) in
+      let i = f .0 in
+      agree a b (offsetBytes es i) (7 + size + 5 * listedBelow es i) (x .offset-field i (f .1) (f .3)) (y .offset-field i (f .1) (f .3)) j (omega arith)
+      (omega arith)
+  byte j (no p) (no q) (no r) (no s) = x .rest j (omega arith) ∙ sym (y .rest j (omega arith))
 
-    -- It has tag 12 hex and length 2.
-    pub offset-field : isField record-of (7 + n + 5 * listedCount es i) 0x12 2 ≡ true
-    unfolding place
-    offset-field = field-stands record-of place 0x12 (offsetOf es i) (stands .0) (stands .1)
+-- Owners and entries that are the same as far as an answer tells them have the same answer.
+answer-for : (before : List ℕ) (size : ℕ) (owners owners′ : List ℕ) (es es′ : List Entry) (w : ℕ) (a : List ℕ)
+    → ((k : ℕ) → k < size → getD owners k 0 ≡ getD owners′ k 0) → ((i : ℕ) → i < IDS → entryOf es i ≡ entryOf es′ i)
+    → AnswerStands before size owners′ es′ w a → AnswerStands before size owners es w a
+answer-for before size owners owners′ es es′ w a o e x = record {
+  length-field = x .length-field;
+  owners-field = x .owners-field;
+  owner = λ k h. x .owner k h ∙ sym (o k h);
+  offset-field = λ i k l. rw (listed i (omega arith), e i k) (x .offset-field i k (rw (e i k) at l));
+  bytes = rw (listed IDS (omega arith)) (x .bytes);
+  rest = x .rest;
+  same = x .same;
+}
+  where
+    listed : (n : ℕ) → n ≤ IDS → listedBelow es n ≡ listedBelow es′ n
+    listed n h = count-same _ _ n (λ i k. ap isListed (e i (omega arith)))
 
-    -- It says the id,
-    pub id-said : contentAt record-of (7 + n + 5 * listedCount es i) 0 ≡ i
-    unfolding place
-    id-said = content-stands record-of place 0x12 (offsetOf es i) (stands .0) (stands .1) 0 (omega arith)
-
-    -- and its offset.
-    pub offset-said : contentAt record-of (7 + n + 5 * listedCount es i) 1 ≡ entryOf es i .offset
-    unfolding place
-    offset-said = content-stands record-of place 0x12 (offsetOf es i) (stands .0) (stands .1) 1 (omega arith)
+-- What stands so has one content and one number of bytes.
+pub answer-one : (before : List ℕ) (size : ℕ) (owners owners′ : List ℕ) (es es′ : List Entry) (w v : ℕ) (a b : List ℕ)
+    → ((k : ℕ) → k < size → getD owners k 0 ≡ getD owners′ k 0) → ((i : ℕ) → i < IDS → entryOf es i ≡ entryOf es′ i)
+    → AnswerStands before size owners es w a → AnswerStands before size owners′ es′ v b → (w ≡ v) × (a ≡ b)
+answer-one before size owners owners′ es es′ w v a b o e x y =
+    let z = answer-for before size owners owners′ es es′ v b o e y in (
+      omega (arith, x .bytes, z .bytes),
+      ext-getD 0 a b (x .same ∙ sym (z .same))
+          (λ j h. byte before size owners es w v a b x z j (decLt j 4) (decLt j 7) (decLt j (7 + size)) (decLt j w)),
+    )

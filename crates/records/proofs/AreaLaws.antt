@@ -7,12 +7,13 @@ use mathlib.Core.Path.{_≡_, refl, sym, ap, _∙_}
 use native.Mathlib.Nat.{add-zero, zero-add}
 use native.Mathlib.Numerals.{add-one}
 use native.Mathlib.Omega.{arith}
-use Prim.Native.Nat.{ℕ, suc, _+_, _*_, _/_, _%_, _≤_, _<_}
-use Rattle.records.proofs.AnswerLaws.{answer-length, count-most, offsets-length}
+use Prim.Native.Nat.{ℕ, suc, _+_, _*_, _≤_, _<_}
+use Rattle.records.proofs.AnswerLaws.{answer-length, answer-run, answerHead, offsets-length}
 use Rattle.records.specs.Answer.{answerRecord, field, offsetFields}
+use Rattle.slots.proofs.Below.{count-most}
 use Rattle.slots.specs.Limits.{AREA, IDS, LONGEST}
 use Rattle.timetable.specs.declared.Entry.{Entry}
-use Rattle.timetable.specs.Timetable.{entryOf}
+use Rattle.timetable.specs.Timetable.{entryOf, isListed}
 
 -- A run of stores, then one that starts where it ends, is one run.
 pub sets-then : (l : List ℕ) (i k : ℕ) (vs ws : List ℕ) → k ≡ i + length vs → sets (sets l i vs) k ws ≡ sets l i (vs ++ ws)
@@ -41,7 +42,7 @@ owner-next l owners from n h =
 module _ (es : List Entry) (n : ℕ) where
   -- The offsets of the ids below n take at most five bytes each.
   pub offsets-room : length (offsetFields es n) ≤ 5 * n
-  offsets-room = omega (arith, offsets-length es n, count-most es n)
+  offsets-room = omega (arith, offsets-length es n, count-most (λ i. isListed (entryOf es i)) n)
 
   -- A listed id adds its field.
   pub offsets-listed : 0 < entryOf es n .period
@@ -86,14 +87,6 @@ front : (l bytes : List ℕ) → length bytes ≤ length l → sets l 0 bytes �
 front l bytes h = rw zero-add at (sets-eq bytes l 0 (omega arith))
 
 module _ (n : ℕ) (owners : List ℕ) (es : List Entry) (small : n ≤ LONGEST) (enough : n ≤ length owners) where
-  -- The answer as it is stored: two heads with the length between, the owners, the offsets.
-  answer-run : (0x10 ∷ 0 ∷ 1 ∷ n ∷ 0x11 ∷ 0 ∷ n ∷ []) ++ take n owners ++ offsetFields es IDS ≡ answerRecord n owners es
-  unfolding answerRecord field
-  answer-run =
-      let high : length (take n owners) / 256 ≡ 0 = omega (arith, length-take-le n owners enough) in
-      let low : length (take n owners) % 256 ≡ n = omega (arith, length-take-le n owners enough) in
-      rw (high, low)
-
   -- An area in which they are stored one behind the other holds the answer, and what stands behind it stays.
   pub answer-stored : (l a b d e : List ℕ) (k r : ℕ) → AREA ≤ length l → a ≡ sets l 0 (0x10 ∷ 0 ∷ 1 ∷ [])
       → b ≡ sets (set a 3 n) 4 (0x11 ∷ 0 ∷ n ∷ []) → k ≡ 7 + n → d ≡ sets b 7 (take n owners) → r ≡ k + length (offsetFields es IDS)
@@ -101,12 +94,13 @@ module _ (n : ℕ) (owners : List ℕ) (es : List Entry) (small : n ≤ LONGEST)
       → (r ≡ length (answerRecord n owners es)) × (e ≡ answerRecord n owners es ++ drop (length (answerRecord n owners es)) l)
   answer-stored l a b d e k r area pa pb pk pd pr pe =
       let t = length-take-le n owners enough in
-      let head : List ℕ = 0x10 ∷ 0 ∷ 1 ∷ n ∷ 0x11 ∷ 0 ∷ n ∷ [] in
+      let run = answer-run n owners es small enough in
+      let head = answerHead n in
       let x : b ≡ sets l 0 head = rw (pb, pa) in
       let y : d ≡ sets l 0 (head ++ take n owners) = pd ∙ rw x (sets-then l 0 7 head (take n owners) refl) in
       let z : e ≡ sets l 0 (head ++ take n owners ++ offsetFields es IDS) =
       pe ∙ rw y (sets-then l 0 k (head ++ take n owners) (offsetFields es IDS) (omega arith))
       in (
-        omega (arith, ap (λ (v : List ℕ). length v) answer-run, length-append (take n owners) (offsetFields es IDS)),
-        z ∙ rw answer-run (front l (answerRecord n owners es) (omega (arith, answer-length n owners es small))),
+        omega (arith, ap (λ (v : List ℕ). length v) run, length-append (take n owners) (offsetFields es IDS)),
+        z ∙ rw run (front l (answerRecord n owners es) (omega (arith, answer-length n owners es small))),
       )

@@ -1,5 +1,6 @@
 pub mod Numbers
 pub mod Request
 pub mod Answer
+pub mod AnswerForm
 pub mod Written
 pub mod Reads

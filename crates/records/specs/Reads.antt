@@ -18,7 +18,7 @@ use Rattle.records.specs.declared.Request.{Request}
 use Rattle.records.specs.declared.SlotField.{SlotField}
 use Rattle.records.specs.declared.SlotField.the-variants.{Value as slot-value, Refused as slot-refused}
 use Rattle.records.specs.Numbers.{BAD-FIELD, OUT-OF-RANGE, NOT-RISING}
-use Rattle.records.specs.Request.{askOf, contentAt, isField, isListing, noAsks, numberAt, refusal, refusedRequest}
+use Rattle.records.specs.Request.{askOf, contentAt, isField, isListing, noAsks, numberAt, refusedRequest}
 use Rattle.slots.specs.Clocks.{coreSlot}
 use Rattle.slots.specs.declared.CoreSlot.{CoreSlot}
 use Rattle.slots.specs.Limits.{IDS, LAST-SLOT, LONGEST, LARGEST-BOUND}
@@ -26,15 +26,15 @@ use Rattle.timetable.specs.Sound.{Period, isBound}
 
 -- What the field of the request slot gives: 3 for its form, then 4 for its value, then the slot and the place after it.
 pub data SlotRead (s : List ℕ) (at : ℕ) : SlotField → Type 0 where
-  wrong : isField s at 1 8 ≡ false → SlotRead s at (slot-refused (refusal BAD-FIELD at))
-  high : isField s at 1 8 ≡ true → LAST-SLOT < numberAt s (at + 3) 8 → SlotRead s at (slot-refused (refusal OUT-OF-RANGE at))
+  wrong : isField s at 1 8 ≡ false → SlotRead s at (slot-refused (record { number = BAD-FIELD; place = at }))
+  high : isField s at 1 8 ≡ true → LAST-SLOT < numberAt s (at + 3) 8 → SlotRead s at (slot-refused (record { number = OUT-OF-RANGE; place = at }))
   value : isField s at 1 8 ≡ true → numberAt s (at + 3) 8 ≤ LAST-SLOT
       → SlotRead s at (slot-value (coreSlot (numberAt s (at + 3) 8)) (record { at = at + 11 }))
 
 -- What the field of T gives: 3 for its form, then 4 for its value, then T and the place after it.
 pub data LimitRead (s : List ℕ) (at : ℕ) : LimitField → Type 0 where
-  wrong : isField s at 2 1 ≡ false → LimitRead s at (limit-refused (refusal BAD-FIELD at))
-  high : isField s at 2 1 ≡ true → LONGEST < contentAt s at 0 → LimitRead s at (limit-refused (refusal OUT-OF-RANGE at))
+  wrong : isField s at 2 1 ≡ false → LimitRead s at (limit-refused (record { number = BAD-FIELD; place = at }))
+  high : isField s at 2 1 ≡ true → LONGEST < contentAt s at 0 → LimitRead s at (limit-refused (record { number = OUT-OF-RANGE; place = at }))
   value : isField s at 2 1 ≡ true → contentAt s at 0 ≤ LONGEST
       → LimitRead s at (limit-value (contentAt s at 0) (record { at = at + 4 }))
 
@@ -45,11 +45,11 @@ pub data ListedForm (s : List ℕ) (at : ℕ) : ℕ → ℕ → Bool → Type 0 
 
 -- What a tag 3 field gives: 3 for its form, then 4 for its values, then 5 for its id, then what it lists and the place after it.
 pub data ListedRead (s : List ℕ) (at floor : ℕ) : ListedField → Type 0 where
-  wrong : isField s at 3 3 ≡ false → isField s at 3 2 ≡ false → ListedRead s at floor (listed-refused (refusal BAD-FIELD at))
+  wrong : isField s at 3 3 ≡ false → isField s at 3 2 ≡ false → ListedRead s at floor (listed-refused (record { number = BAD-FIELD; place = at }))
   high : {next bound : ℕ} {range : Bool} → ListedForm s at next bound range → range ≡ false
-      → ListedRead s at floor (listed-refused (refusal OUT-OF-RANGE at))
+      → ListedRead s at floor (listed-refused (record { number = OUT-OF-RANGE; place = at }))
   low : {next bound : ℕ} {range : Bool} → ListedForm s at next bound range → range ≡ true → contentAt s at 0 < floor
-      → ListedRead s at floor (listed-refused (refusal NOT-RISING at))
+      → ListedRead s at floor (listed-refused (record { number = NOT-RISING; place = at }))
   value : {next bound : ℕ} {range : Bool} → ListedForm s at next bound range → range ≡ true → floor ≤ contentAt s at 0
       → ListedRead s at floor
       (listed-value (record { id = contentAt s at 0; period = 2 ^ contentAt s at 1; bound = bound }) (record { at = next }))

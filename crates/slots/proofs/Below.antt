@@ -3,7 +3,7 @@ use mathlib.Core.Bool.{Bool, true, false, cond, _&&_, _||_, true≢false, and-eq
 use mathlib.Core.Logic.{_⊎_, inl, inr}
 use mathlib.Core.Option.{Option, none, some}
 use mathlib.Core.Path.{_≡_, refl, sym, ap, ap₂, _∙_}
-use native.Mathlib.Decide.{ℕ-discrete}
+use native.Mathlib.Decide.{ℕ-discrete, decLt}
 use native.Mathlib.Omega.{arith}
 use Prim.Native.Nat.{ℕ, zero, suc, _+_, _≤_, _<_}
 use Rattle.slots.specs.Below.{every, first, count}
@@ -121,3 +121,31 @@ module _ (test : ℕ → Bool) where
       at : (b : Bool) → count n test ≤ n → count n test + cond b 1 0 ≤ suc n
       at true h = omega arith
       at false h = omega arith
+
+  -- A number that passes adds to the count of those below it.
+  pub count-rises : (i n : ℕ) → i < n → test i ≡ true → count i test < count n test
+  unfolding count
+  count-rises i (suc n) h t = at (ℕ-discrete i n) (λ k. count-rises i n k t)
+    where
+      at : Dec (i ≡ n) → (i < n → count i test < count n test) → count i test < count n test + cond (test n) 1 0
+      at (yes e) ih = rw (e, ap test (sym e) ∙ t) (omega arith)
+      at (no e) ih = omega (arith, ih (omega arith))
+
+  -- For every number below the count, a number passes that has so many below it that do.
+  pub count-reaches : (n c : ℕ) → c < count n test → (i : ℕ) × (i < n) × (count i test ≡ c) × (test i ≡ true)
+  unfolding count
+  count-reaches zero c h = absurd (omega arith)
+  count-reaches (suc n) c h = at (decLt c (count n test)) (test n) refl h (count-reaches n c)
+    where
+      at : Dec (c < count n test) → (b : Bool) → test n ≡ b → c < count n test + cond b 1 0
+          → (c < count n test → (i : ℕ) × (i < n) × (count i test ≡ c) × (test i ≡ true))
+          → (i : ℕ) × (i < suc n) × (count i test ≡ c) × (test i ≡ true)
+      at (yes l) b e h ih = let k = ih l in (k .0, omega (arith, k .1), k .2, k .3)
+      at (no l) true e h ih = (n, omega arith, omega arith, e)
+      at (no l) false e h ih = absurd (omega arith)
+
+-- Two tests that say the same of every number below n count the same.
+pub count-same : (f g : ℕ → Bool) (n : ℕ) → ((i : ℕ) → i < n → f i ≡ g i) → count n f ≡ count n g
+unfolding count
+count-same f g zero h = refl
+count-same f g (suc n) h = rw (count-same f g n (λ i k. h i (omega arith)), h n (omega arith))
