@@ -85,6 +85,15 @@ module _ (t : Timetable) (s : List ℕ) (area : ℕ) where
   searched e p x (exhausted b q i) =
       subst (λ (x : Searched). Gets t s area (answerOf t (readRequest s .request) x)) (sym i) (no-length e p b)
 
+  -- A refusal before the search has a number from 1 to 8.
+  pub refusal-number : (x : Refusal) → Refuses t (readRequest s) area (some x) → (0 < x .number) × (x .number < NO-SCHEDULE)
+  refusal-number x (not-sound a) = omega arith
+  refusal-number x (small-area a b) = omega arith
+  refusal-number x (bad-field a b q f) = let k = refused-in-range s q f in omega (arith, k .low, k .high)
+  refusal-number x (too-early a b c d) = omega arith
+  refusal-number x (overfull a b c d i k f g) = omega arith
+  refusal-number x (behind a b c d f i k g h) = omega arith
+
   -- Every request gets one of these.
   pub gets : Gets t s area (answer t s area)
   unfolding r answer answerTo searchOf
@@ -95,13 +104,8 @@ module _ (t : Timetable) (s : List ℕ) (area : ℕ) where
             | none ↦ answerOf t (readRequest s .request) (searchFrom (readRequest s .request .limit) 0 (startPlan t (readRequest s .request)))
             | some r ↦ refuse t r
           ])
-      at o e (not-sound a) = refused _ e (omega arith) (omega arith)
-      at o e (small-area a b) = refused _ e (omega arith) (omega arith)
-      at o e (bad-field a b q f) = let k = refused-in-range s q f in refused q e (omega (arith, k .low)) (omega (arith, k .high))
-      at o e (too-early a b c d) = refused _ e (omega arith) (omega arith)
-      at o e (overfull a b c d i k f g) = refused _ e (omega arith) (omega arith)
-      at o e (behind a b c d f i k g h) = refused _ e (omega arith) (omega arith)
-      at o e (passes a b c d f g) =
+      at (some x) e p = let k = refusal-number x p in refused x e (k .0) (k .1)
+      at none e (passes a b c d f g) =
           searched e (record { range = read-in-range s c; later = d; fine = g }) _ (search-ends (readRequest s .request .limit) 0 (startPlan t (readRequest s .request)))
 
   -- An accepted request's timetable continues the one before.

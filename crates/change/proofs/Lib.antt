@@ -2,10 +2,13 @@ pub mod Stages
 pub mod Start
 pub mod Accept
 pub mod Answers
+pub mod GivenLaws
+pub mod OneGiven
 pub mod Histories
 pub mod StageSteps
 pub mod FirstStages
 pub mod EndingSteps
 pub mod Passing
 pub mod QueryLaws
+pub mod QueriedLaws
 pub mod OneOutcome

@@ -1,0 +1,201 @@
+-- What a request gets is what the rules give: the plan that the search found was reached slot by slot, placed by rule 4, and written. Assumes nothing.
+use borrow.Author.Tests.{eq-eqb, le-ltb, lt-ltb, ne-eqb}
+use lib.ListN.{length}
+use mathlib.Core.Bool.{Bool, true, false}
+use mathlib.Core.List.{List}
+use mathlib.Core.Logic.{inl, inr}
+use mathlib.Core.Option.{none, some}
+use mathlib.Core.Path.{_≡_, refl, sym, ap, _∙_, subst}
+use native.Mathlib.Decide.{ℕ-discrete}
+use native.Mathlib.Nat.{zero-add}
+use native.Mathlib.Omega.{arith}
+use Prim.Native.Nat.{ℕ, suc, _-_, _≤_, _<_}
+use Rattle.change.proofs.Answers.{Gets, Passes, accepted, acceptedAs, gets, no-length, no-slot, refused}
+use Rattle.change.proofs.Stages.{stages}
+use Rattle.change.proofs.Start.{length-start, start-at, start-fit}
+use Rattle.change.specs.Change.{Answer, answer, areaAfter, outcome, outcomeOf, startPlan, written}
+use Rattle.change.specs.declared.Outcome.{Outcome}
+use Rattle.change.specs.Given.{AsksBound, Enters, AtRequest, ByRules, Accepted, Wanting, Gives, early, schedule, wanting}
+use Rattle.change.specs.Refused.{Refuses, passes}
+use Rattle.change.specs.Stages.{askedBound, refusalBefore, startEntries, startEntry}
+use Rattle.placement.proofs.Complete.{placement-none, settle-entry, settle-unlisted}
+use Rattle.placement.proofs.RuleFourLaws.{rule-four-is}
+use Rattle.placement.proofs.Settle.{length-settle}
+use Rattle.placement.specs.Any.{NoPlacement}
+use Rattle.placement.specs.Placement.{Place, placement, settle}
+use Rattle.placement.specs.RuleFour.{ByRuleFour}
+use Rattle.records.proofs.AnswerPlaces.{answer-stands}
+use Rattle.records.proofs.ReadSteps.{request-read}
+use Rattle.records.specs.declared.Ask.{Ask}
+use Rattle.records.specs.declared.Refusal.{Refusal}
+use Rattle.records.specs.declared.Request.{Request}
+use Rattle.records.specs.Request.{askOf, readRequest}
+use Rattle.slots.specs.Limits.{AREA, IDS, LONGEST}
+use Rattle.timetable.specs.declared.Entry.{Entry}
+use Rattle.timetable.specs.declared.Timetable.{Timetable}
+use Rattle.timetable.specs.Timetable.{entryOf, isListed, withOffset}
+use Rattle.transition.proofs.Plans.{Fit}
+use Rattle.transition.proofs.Reach.{reach-fit}
+use Rattle.transition.proofs.RuleThreeLaws.{longer-breaks, reach-rule, reach-walked}
+use Rattle.transition.proofs.Search.{PassedFirst}
+use Rattle.transition.proofs.Walk.{owners-stay, walked}
+use Rattle.transition.specs.declared.Plan.{Plan}
+use Rattle.transition.specs.Reach.{AnyoneBreaks, reach}
+use Rattle.transition.specs.RuleThree.{walkedTo}
+use Rattle.transition.specs.Transition.{longer, placed}
+
+-- ---- rule 1
+
+-- The bound that is asked.
+asks-bound : (a : Ask) → AsksBound (a .bound) (askedBound a)
+unfolding askedBound
+asks-bound a = at (ℕ-discrete (a .bound) 0)
+  where
+    at : Dec (a .bound ≡ 0) → AsksBound (a .bound) (askedBound a)
+    at (yes e) = inr (e, rw (eq-eqb (a .bound) 0 e))
+    at (no e) = inl (omega arith, rw (ne-eqb (a .bound) 0 e))
+
+-- The entries at the request slot are those of rule 1.
+pub at-request : (t : Timetable) (q : Request) → AtRequest t q (startEntries t (q .slot) (q .asks))
+unfolding startEntry
+at-request t q = record {
+  count = length-start t (q .slot) (q .asks);
+  listed = λ i k h. subst (Enters t q i) (sym (start-at t (q .slot) (q .asks) i k)) (enters i h);
+  blank = λ i k z. start-at t (q .slot) (q .asks) i k ∙ rw (le-ltb 0 (askOf (q .asks) i .period) (omega arith));
+}
+  where
+    enters : (i : ℕ) → 0 < askOf (q .asks) i .period → Enters t q i (startEntry t (q .slot) i (askOf (q .asks) i))
+    enters i h =
+        rw (lt-ltb 0 (askOf (q .asks) i .period) h)
+        (record { period = refl; bound = asks-bound (askOf (q .asks) i); shortfall = refl; offset = refl })
+
+-- ---- rules 2 to 4
+
+module _ (t : Timetable) (q : Request) (pass : Passes t q) where
+  abbrev plan : Plan
+  plan = startPlan t q
+
+  fit : Fit 0 plan
+  fit = start-fit t q (pass .range) (pass .fine)
+
+  module _ (n : ℕ) (small : n ≤ LONGEST) (x : Plan) (here : reach plan n ≡ some x) where
+    fit-here : Fit n x
+    fit-here = subst (λ (m : ℕ). Fit m x) (zero-add n) (reach-fit n 0 plan x fit (omega arith) here)
+
+    -- The entries at a length on the way.
+    on-the-way : (m : ℕ) → m ≤ n → (y : Plan) → reach plan m ≡ some y → y .entries ≡ walkedTo (plan .entries) (x .owners) m
+    on-the-way m l y e =
+        reach-walked plan fit m (omega arith) y e (x .owners)
+        (λ k j. sym (owners-stay plan fit m (n - m) y x e (ap (reach plan) (omega arith) ∙ here) k j))
+
+    -- From a length that was passed over no cyclic placement keeps the bounds.
+    passed-over : (k : ℕ) → k ≤ suc n → PassedFirst k 0 plan → (m : ℕ) → m < k → NoPlacement (walkedTo (plan .entries) (x .owners) m)
+    passed-over k l b m h =
+        let w = b m h in
+        let f = reach-fit m 0 plan (w .0) fit (omega arith) (w .1) in
+        subst NoPlacement (on-the-way m (omega arith) (w .0) (w .1)) (placement-none (w .0 .entries) (f .ranged) (w .2))
+
+    module _ (ps : List Place) (rule4 : placement (x .entries) ≡ some ps) where
+      -- The timetable found is by the rules.
+      by-rules : n ≤ q .limit → PassedFirst n 0 plan → ByRules q (plan .entries) (acceptedAs q n x ps .timetable)
+      unfolding placed startPlan
+      by-rules l b = record {
+        slot = refl;
+        base = refl;
+        limit = l;
+        shorter = passed-over n (omega arith) b;
+        transition = reach-rule plan fit n small x here;
+        places = fit-here .places;
+        unused = fit-here .unused;
+        placed = subst (λ (es : List Entry). ByRuleFour es (λ i. entryOf (settle (x .entries) ps) i .offset)) walk
+            (rule-four-is (x .entries) (fit-here .ranged) (fit-here .entries) ps rule4);
+        count = length-settle (x .entries) ps ∙ fit-here .entries;
+        kept = λ i k. at i k (isListed (entryOf (x .entries) i)) refl;
+        blank = λ i k z.
+            let u = unlisted i k z in
+            settle-unlisted (x .entries) (fit-here .ranged) (fit-here .entries) ps rule4 i k u ∙ fit-here .ranged .blank i k u;
+      }
+        where
+          walk : x .entries ≡ walkedTo (plan .entries) (x .owners) n
+          walk = on-the-way n (omega arith) x here
+
+          at : (i : ℕ) → i < IDS → (b : Bool) → isListed (entryOf (x .entries) i) ≡ b
+              → entryOf (settle (x .entries) ps) i
+              ≡ withOffset (entryOf (settle (x .entries) ps) i .offset) (entryOf (walkedTo (plan .entries) (x .owners) n) i)
+          at i k true e =
+              settle-entry (x .entries) (fit-here .ranged) (fit-here .entries) ps rule4 i k e
+              ∙ ap (λ (es : List Entry). withOffset (entryOf (settle (x .entries) ps) i .offset) (entryOf es i)) walk
+          at i k false e =
+              let z = settle-unlisted (x .entries) (fit-here .ranged) (fit-here .entries) ps rule4 i k e in
+              z
+              ∙ ap (λ (o : ℕ). withOffset o (entryOf (x .entries) i)) (ap (λ (y : Entry). y .offset) (sym z))
+              ∙ ap (λ (es : List Entry). withOffset (entryOf (settle (x .entries) ps) i .offset) (entryOf es i)) walk
+
+          unlisted : (i : ℕ) → i < IDS → askOf (q .asks) i .period ≡ 0 → isListed (entryOf (x .entries) i) ≡ false
+          unlisted i k z = ap isListed (walked plan fit n small x here i k) ∙ ap isListed (at-request t q .blank i k z)
+
+  -- For want of a schedule.
+  want-missed : (k : ℕ) → k < q .limit → PassedFirst (suc k) 0 plan → (x : Plan) → reach plan k ≡ some x → longer k x ≡ none → Wanting t q k
+  unfolding startPlan
+  want-missed k l b x here miss =
+      let small : k ≤ LONGEST = omega (arith, pass .range .limit) in
+      let w = b k (omega arith) in
+      let y : w .0 ≡ x = cc (w .1) in
+      record {
+        start = plan .entries;
+        starts = at-request t q;
+        owners = x .owners;
+        transition = reach-rule plan fit k small x here;
+        limit = omega arith;
+        passed = λ m l. passed-over k small x here (suc k) (omega arith) b m (omega arith);
+        ends = inr (subst AnyoneBreaks (on-the-way k small x here k (omega arith) x here)
+            (longer-breaks k x (fit-here k small x here) (subst (λ (p : Plan). placement (p .entries) ≡ none) y (w .2)) miss));
+      }
+
+  want-exhausted : PassedFirst (suc (q .limit)) 0 plan → Wanting t q (q .limit)
+  unfolding startPlan
+  want-exhausted b =
+      let n : ℕ = q .limit in
+      let small : n ≤ LONGEST = omega (arith, pass .range .limit) in
+      let w = b n (omega arith) in
+      record {
+        start = plan .entries;
+        starts = at-request t q;
+        owners = w .0 .owners;
+        transition = reach-rule plan fit n small (w .0) (w .1);
+        limit = omega arith;
+        passed = λ m l. passed-over n small (w .0) (w .1) (suc n) (omega arith) b m (omega arith);
+        ends = inl refl;
+      }
+
+-- ---- the whole
+
+pub gives : (t : Timetable) (s area : List ℕ) → Gives t s area (outcome t s area) (areaAfter t s area)
+unfolding outcome areaAfter startPlan placed
+gives t s area = at (answer t s (length area)) (gets t s (length area))
+  where
+    passed : refusalBefore t (readRequest s) (length area) ≡ none → Refuses t (readRequest s) (length area) none
+    passed e = subst (Refuses t (readRequest s) (length area)) e (stages t (readRequest s) (length area))
+
+    enough : Refuses t (readRequest s) (length area) none → AREA ≤ length area
+    enough (passes a b c d f g) = b
+
+    at : (a : Answer) → Gets t s (length area) a → Gives t s area (outcomeOf a) (written a area)
+    at a (refused x e l h) = early (readRequest s) (request-read s) x (subst (Refuses t (readRequest s) (length area)) e (stages t (readRequest s) (length area)))
+    at a (accepted e p k l b x h ps f) =
+        let small : k ≤ LONGEST = omega (arith, p .range .limit) in
+        schedule (readRequest s) (request-read s) (passed e) (outcomeOf a) (written a area)
+        (record {
+          start = startPlan t (readRequest s .request) .entries;
+          starts = at-request t (readRequest s .request);
+          rules = by-rules t (readRequest s .request) p k small x h ps f l b;
+          number = refl;
+          place = refl;
+          tries = refl;
+          answer =
+              answer-stands k (x .owners) (placed x ps .entries) area small
+              (omega (arith, fit-here t (readRequest s .request) p k small x h .places))
+              (enough (passed e));
+        })
+    at a (no-slot e p k l b x h f) = wanting (readRequest s) (request-read s) (passed e) k (want-missed t (readRequest s .request) p k l b x h f)
+    at a (no-length e p b) = wanting (readRequest s) (request-read s) (passed e) (readRequest s .request .limit) (want-exhausted t (readRequest s .request) p b)
