@@ -12,9 +12,14 @@ use native.Mathlib.Omega.{arith}
 use Prim.Native.Nat.{ℕ, suc, _+_, _-_, _*_, _≤_}
 use Rattle.change.proofs.Answers.{Gets, refused, accepted, no-slot, no-length, gets, accepted-continues}
 use Rattle.change.proofs.Histories.{history-valid}
+use Rattle.change.proofs.GivenLaws.{at-request, gives}
+use Rattle.change.proofs.OneGiven.{gives-one}
+use Rattle.change.proofs.QueriedLaws.{owner-given, owner-only, standing-given, standing-only}
 use Rattle.change.proofs.Stages.{stages, stages-only}
 use Rattle.change.specs.Change.{Answer, answer, answerTo, answerOf, outcome, areaAfter, refuse, searchOf, startPlan}
 use Rattle.change.specs.Controller.{historyOf}
+use Rattle.change.specs.declared.Outcome.{Outcome}
+use Rattle.change.specs.Given.{Gives, early, refusedWith, schedule, wanting}
 use Rattle.change.specs.Queries.{ownerQuery, standing, standingQuery}
 use Rattle.change.specs.Refused.{Refuses, passes}
 use Rattle.change.specs.Stages.{refusalBefore}
@@ -22,7 +27,7 @@ use Rattle.placement.proofs.Complete.{placement-none, placement-some}
 use Rattle.placement.specs.Any.{CyclicPlacement}
 use Rattle.placement.specs.Placement.{Place, placement}
 use Rattle.promises.proofs.Lengths.{accepted-iff, refused-iff}
-use Rattle.promises.specs.Promises.{SoundStays, Windows, OneOwner, PlacementComplete, Shortest, Tries, Stages, OneForm, KeptShortfall, Queries}
+use Rattle.promises.specs.Promises.{SoundStays, Windows, OneOwner, PlacementComplete, Passes, Shortest, Tries, Stages, OneForm, KeptShortfall, Queries, Exact, Figures}
 use Rattle.records.proofs.AnswerLaws.{answer-length}
 use Rattle.records.proofs.OneForm.{one-form}
 use Rattle.records.proofs.ReadLaws.{read-in-range, refused-in-range}
@@ -30,7 +35,8 @@ use Rattle.records.proofs.ReadSteps.{request-read, request-is}
 use Rattle.records.proofs.RoundTrip.{round-trip}
 use Rattle.records.specs.declared.ReadRequest.{ReadRequest}
 use Rattle.records.specs.declared.Refusal.{Refusal}
-use Rattle.records.specs.Numbers.{ACCEPTED}
+use Rattle.records.specs.Numbers.{ACCEPTED, NO-SCHEDULE}
+use Rattle.records.specs.Reads.{RequestRead}
 use Rattle.records.specs.Request.{readRequest}
 use Rattle.slots.proofs.Below.{count-most}
 use Rattle.slots.proofs.Windows.{attains, kept-windows, window-le}
@@ -127,40 +133,62 @@ placement-complete = record {
 
 -- ---- 5 and 6
 
-pub shortest : Shortest
-shortest = record { accepted = accepted-iff; refused = refused-iff }
+-- A refusal that document 01 gives before the search is the outcome.
+refused-so : (t : Timetable) (s area : List ℕ) (read : ReadRequest) → RequestRead s read → (x : Refusal) → Refuses t read (length area) (some x)
+    → (outcome t s area ≡ refusedWith t (x .number) (x .place) 0) × (areaAfter t s area ≡ area)
+refused-so t s area read e x p =
+    gives-one t s area (outcome t s area) (refusedWith t (x .number) (x .place) 0) (areaAfter t s area) area (gives t s area) (early read e x p)
 
--- The answer of a request that passes the stages is that of its search.
-searched : (t : Timetable) (s : List ℕ) (area : ℕ) → refusalBefore t (readRequest s) area ≡ none
-    → answer t s area ≡ answerOf t (readRequest s .request) (searchOf t (readRequest s .request))
-unfolding answer answerTo
-searched t s area e =
-    ap (λ (o : Option Refusal). elim o as (λ _. Answer) [
+-- A request that passes gets no refusal before the search.
+no-refusal : (t : Timetable) (s : List ℕ) (area : ℕ) → Passes t s area → refusalBefore t (readRequest s) area ≡ none
+no-refusal t s area p = stages-only t (readRequest s) area none p
+
+pub shortest : Shortest
+unfolding outcome
+shortest t s area p =
+    let e = no-refusal t s (length area) p in
+    record { accepted = accepted-iff t s (length area) e; refused = refused-iff t s (length area) e }
+
+-- The tries of a request that passes the stages are those of its search.
+searched : (t : Timetable) (s area : List ℕ) → Passes t s (length area) → outcome t s area .tries ≡ searchOf t (readRequest s .request) .tries
+unfolding outcome answer answerTo answerOf
+searched t s area p =
+    ap (λ (o : Option Refusal). (elim o as (λ _. Answer) [
       | none ↦ answerOf t (readRequest s .request) (searchOf t (readRequest s .request))
       | some r ↦ refuse t r
-    ]) e
+    ]) .tries) (no-refusal t s (length area) p)
 
 pub tries : Tries
-unfolding answerOf searchOf answer answerTo
+unfolding searchOf
 tries = record {
-  before = λ t s area r e.
-      ap (λ (o : Option Refusal). (elim o as (λ _. Answer) [
-        | none ↦ answerOf t (readRequest s .request) (searchOf t (readRequest s .request))
-        | some r ↦ refuse t r
-      ]) .tries) e;
+  before = λ t s area x p. ap (λ (o : Outcome). o .tries) (refused-so t s area (readRequest s) (request-read s) x p .0);
   counted = counted;
-  few = λ t s area e. subst (λ (x : ℕ). x ≤ suc (readRequest s .request .limit)) (sym (counted t s area e)) (count-most _ (suc (readRequest s .request .limit)));
+  few = λ t s area p.
+      subst (λ (x : ℕ). x ≤ suc (readRequest s .request .limit)) (sym (counted t s area p))
+      (count-most (isSearched (startPlan t (readRequest s .request))) (suc (readRequest s .request .limit)));
 }
   where
-    counted : (t : Timetable) (s : List ℕ) (area : ℕ) → refusalBefore t (readRequest s) area ≡ none
-        → answer t s area .tries ≡ count (suc (readRequest s .request .limit)) (isSearched (startPlan t (readRequest s .request)))
-    counted t s area e =
-        ap (λ (a : Answer). a .tries) (searched t s area e) ∙ tries-count (startPlan t (readRequest s .request)) (readRequest s .request .limit)
+    counted : (t : Timetable) (s area : List ℕ) → Passes t s (length area)
+        → outcome t s area .tries ≡ count (suc (readRequest s .request .limit)) (isSearched (startPlan t (readRequest s .request)))
+    counted t s area p = searched t s area p ∙ tries-count (startPlan t (readRequest s .request)) (readRequest s .request .limit)
 
 -- ---- 7 and 8
 
 pub stages-kept : Stages
-stages-kept = record { given = stages; only = stages-only; fields = request-read; fields-only = request-is }
+stages-kept = record {
+  refused = refused-so;
+  refused-only = λ t s area read e. only t s area read e (outcome t s area) (areaAfter t s area) (gives t s area);
+  fields = request-read;
+  fields-only = request-is;
+  entries = at-request;
+}
+  where
+    only : (t : Timetable) (s area : List ℕ) (read : ReadRequest) → RequestRead s read → (r : Outcome) (out : List ℕ) → Gives t s area r out
+        → r .number ≢ ACCEPTED → r .number ≢ NO-SCHEDULE → Refuses t read (length area) (some (record { number = r .number; place = r .place }))
+    only t s area read e r out (early a d x p) n m =
+        subst (λ (y : ReadRequest). Refuses t y (length area) (some x)) (sym (request-is s a d) ∙ request-is s read e) p
+    only t s area read e r out (schedule a d p u v w) n m = absurd (n (w .number))
+    only t s area read e r out (wanting a d p k w) n m = absurd (m refl)
 
 pub one-form-kept : OneForm
 one-form-kept = record { one = one-form; back = round-trip; range = read-in-range; damaged = refused-in-range }
@@ -168,13 +196,13 @@ one-form-kept = record { one = one-form; back = round-trip; range = read-in-rang
 -- ---- 9
 
 pub kept-shortfall : KeptShortfall
-kept-shortfall = record {
-  most = λ sent i a n k l b since.
+kept-shortfall sent = record {
+  most = λ i a n k l b since.
       let h = historyOf sent in
       subst (λ (x : ℕ). entitlement (runOf h) i a n ≤ WHOLE * supply (runOf h) i a n + x)
       (present-run h (history-valid sent) i k l (a + n) b)
       (window-le (runOf h) i a n since);
-  attained = λ sent i x k l b.
+  attained = λ i x k l b.
       let h = historyOf sent in
       let v = history-valid sent in
       let w = attains (runOf h) i x in
@@ -194,15 +222,30 @@ kept-shortfall = record {
 pub queries : Queries
 unfolding ownerQuery standingQuery standing slicesAt runOf
 queries = record {
-  owner = λ sent x l b.
-      let h = historyOf sent in
-      rw (sound-is _ (present-sound h (history-valid sent) .0), le-ltb LAST-SLOT x l, le-ltb x (present h .request .0) b)
-      (ap (λ (t : Timetable). record { number = ACCEPTED; place = 0; owner = ownerNumber (ownerAt t (coreSlot x)) }) (sym (present-in-force h x b)));
-  standing = λ sent i x k l b li.
+  tell = λ sent.
       let h = historyOf sent in
       let v = history-valid sent in
-      rw (sound-is _ (present-sound h v .0), lt-leb IDS i k, le-ltb LAST-SLOT x l, le-ltb x (present h .base .0) b, li)
-      (ap₂ (λ (a n : ℕ). record { number = ACCEPTED; place = 0; shortfall = a; slices = sliceCount n })
-      (sym (present-run h v i k li x b))
-      (sym (slices-run h v i k li (x - present h .base .0))));
+      record {
+        owner = λ x l b.
+            rw (sound-is _ (present-sound h v .0), le-ltb LAST-SLOT x l, le-ltb x (present h .request .0) b)
+            (ap (λ (t : Timetable). record { number = ACCEPTED; place = 0; owner = ownerNumber (ownerAt t (coreSlot x)) })
+            (sym (present-in-force h x b)));
+        standing = λ i x k l b li.
+            rw (sound-is _ (present-sound h v .0), lt-leb IDS i k, le-ltb LAST-SLOT x l, le-ltb x (present h .base .0) b, li)
+            (ap₂ (λ (a n : ℕ). record { number = ACCEPTED; place = 0; shortfall = a; slices = sliceCount n })
+            (sym (present-run h v i k li x b))
+            (sym (slices-run h v i k li (x - present h .base .0))));
+      };
+  owner = owner-given;
+  owner-only = owner-only;
+  standing = λ t i x. standing-given t x i;
+  standing-only = λ t i x. standing-only t x i;
 }
+
+-- ---- 11 and 12
+
+pub exact : Exact
+exact = record { given = gives; one = gives-one }
+
+pub figures : Figures
+figures = record { numbers = refl; limits = refl }

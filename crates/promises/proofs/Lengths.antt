@@ -29,10 +29,10 @@ use Rattle.slots.specs.Slots.{isOwner}
 use Rattle.timetable.proofs.Ranges.{InRange}
 use Rattle.timetable.specs.declared.Timetable.{Timetable}
 use Rattle.timetable.specs.Timetable.{entryOf, isListed, weight}
-use Rattle.transition.proofs.Plans.{Fit, Step, Longer, longer-told, step-fit, over-at, overEntry}
+use Rattle.transition.proofs.Plans.{Fit}
 use Rattle.transition.proofs.Reach.{reach-fit, reach-past}
 use Rattle.transition.proofs.Search.{PassedFirst}
-use Rattle.transition.proofs.UrgentRule.{missed-breaks}
+use Rattle.transition.proofs.RuleThreeLaws.{goes-kept, longer-breaks}
 use Rattle.transition.proofs.Walk.{step-before, reach-before}
 use Rattle.transition.specs.declared.Plan.{Plan}
 use Rattle.transition.specs.Reach.{reach, AnyoneBreaks, PassedOver, HasPlacement, CannotReach}
@@ -81,48 +81,17 @@ module _ (plan : Plan) (fit : Fit 0 plan) where
 
   -- Past a slot that the urgent rule cannot give, nothing can be reached.
   cannot-reach : (k n : ℕ) → k < n → k ≤ LONGEST → (p : Plan) → reach plan k ≡ some p → placement (p .entries) ≡ none → longer k p ≡ none → CannotReach plan n
-  cannot-reach k n l m p e z h = (k, l, p, e, at (longer k p) h (longer-told k p))
-    where
-      f : Fit k p
-      f = fit-at k m p e
-
-      -- with nobody listed every choice of offsets is a placement
-      nobody : ((i : ℕ) → i < IDS → isListed (entryOf (p .entries) i) ≡ false) → ⊥
-      nobody n =
-          placement-none (p .entries) (f .ranged) z (λ i. 0)
-          (record {
-            below = λ i w. absurd (true-false (w .1) (n i (w .0)));
-            apart = λ i j w _ _ _ _ _. true-false (w .1) (n i (w .0));
-            kept = λ i w _. absurd (true-false (w .1) (n i (w .0)));
-          })
-
-      at : (o : Option Plan) → o ≡ none → Longer k p o → AnyoneBreaks (p .entries)
-      at none q (inl n) = absurd (nobody n)
-      at none q (inr w) = missed-breaks (p .entries) (f .ranged) (w .0) (w .1) (w .2)
-      at (some x) q w = absurd (let y : _≡_ {A = ℕ} 0 1 = cc in omega arith)
+  cannot-reach k n l m p e z h = (k, l, p, e, longer-breaks k p (fit-at k m p e) z h)
 
   -- A length that is reached can be reached: each slot before it was given with every bound kept.
   reached-not-cannot : (n : ℕ) → n ≤ LONGEST → (p : Plan) → reach plan n ≡ some p → CannotReach plan n → ⊥
-  unfolding isOwner
   reached-not-cannot n l p e c =
       let k : ℕ = c .0 in
       let x = reach-before plan fit (suc k) (n - suc k) p (ap (reach plan) (omega (arith, c .1)) ∙ e) in
       let w = step-before plan fit k (x .0) (x .1) in
       let f = fit-at k (omega (arith, c .1)) (w .0) (w .1) in
-      let g = step-fit k (w .0) (x .0) (omega (arith, c .1)) f (w .2) in
       let q : c .2 ≡ w .0 = same-plan (reach plan k) (c .2) (w .0) (c .3) (w .1) in
-      at (w .0) (x .0) f g (w .2) (subst (λ (y : Plan). AnyoneBreaks (y .entries)) q (c .4) (some (w .2 .u)))
-    where
-      at : (y z : Plan) → Fit (c .0) y → Fit (suc (c .0)) z → (st : Step (c .0) y z)
-          → (i : ℕ) × Lists (y .entries) i × (WHOLE * entryOf (y .entries) i .bound ≤ overSlot (eqb i (st .u)) (weight (entryOf (y .entries) i)) (entryOf (y .entries) i .shortfall))
-          → ⊥
-      at y z f g st b =
-          let i : ℕ = b .0 in
-          let k : i < IDS = b .1 .0 in
-          let e : entryOf (z .entries) i ≡ overEntry (eqb i (st .u)) (entryOf (y .entries) i) =
-          ap (λ (w : Plan). entryOf (w .entries) i) (st .is) ∙ over-at (y .entries) (st .u) (f .entries) i k in
-          let r : InRange (overEntry (eqb i (st .u)) (entryOf (y .entries) i)) = subst InRange e (g .ranged .listed i k (ap isListed e ∙ b .1 .1)) in
-          omega (arith, r .kept, b .2)
+      goes-kept (w .0 .entries) (f .ranged) (w .2 .u) (w .2 .goes) (subst (λ (y : Plan). AnyoneBreaks (y .entries)) q (c .4))
 
 -- ---- the answer
 

@@ -4,38 +4,67 @@ use lib.ListN.{length}
 use mathlib.Core.Bool.{true}
 use mathlib.Core.List.{List, [], _∷_}
 use mathlib.Core.Logic.{_≢_}
+use mathlib.Core.Option.{some}
 use mathlib.Core.Path.{_≡_, refl, sym, ap, _∙_, subst}
-use Prim.Native.Nat.{ℕ, _<_}
+use Prim.Native.Nat.{ℕ}
+use native.Mathlib.Omega.{arith}
+use Rattle.change.proofs.Answers.{refusal-number}
 use Rattle.change.proofs.Histories.{sent-accepted, sent-refused}
-use Rattle.change.proofs.OneOutcome.{change-unique}
-use Rattle.change.specs.Change.{answer, outcome}
+use Rattle.change.specs.Change.{answer, areaAfter, outcome}
 use Rattle.change.specs.Controller.{Sent, send, historyOf}
 use Rattle.change.specs.declared.Outcome.{Outcome}
-use Rattle.promises.proofs.Kept.{sound-stays, windows, one-owner}
-use Rattle.promises.specs.OfCode.{Serves, start, accepts, refuses, DemandOne, DemandTwo, DemandThree}
-use Rattle.records.specs.Numbers.{ACCEPTED}
-use Rattle.slots.specs.Clocks.{coreSlot}
-use Rattle.slots.specs.Limits.{IDS}
-use Rattle.slots.specs.Slots.{Since, Listed, KeepsBound}
-use Rattle.timetable.specs.History.{History, present, inForce, runOf}
+use Rattle.change.specs.Given.{Accepted, Gives, early, schedule, wanting}
+use Rattle.change.specs.Queried.{OwnerGiven, StandingGiven}
+use Rattle.change.specs.Refused.{Refuses}
+use Rattle.records.proofs.ReadSteps.{request-is}
+use Rattle.promises.proofs.Kept.{exact, kept-shortfall, one-owner, queries, shortest, sound-stays, stages-kept, windows}
+use Rattle.promises.specs.OfCode.{Meets, Serves, start, accepts, refuses, DemandOne, DemandTwo, DemandThree, DeficitMeans, QueriesOfCode}
+use Rattle.promises.specs.Promises.{QueriesTell, ServesOne, ShortestOf, ShortfallMeans, WindowsKept}
+use Rattle.records.specs.declared.ReadRequest.{ReadRequest}
+use Rattle.records.specs.Numbers.{ACCEPTED, NO-SCHEDULE}
+use Rattle.records.specs.Reads.{RequestRead}
+use Rattle.records.specs.Request.{readRequest}
+use Rattle.timetable.specs.declared.Timetable.{Timetable}
+use Rattle.timetable.specs.History.{History, present}
 use Rattle.timetable.specs.Sound.{isSound}
-use Rattle.timetable.specs.Timetable.{serves}
+
+module _ (t : Timetable) (s area : List ℕ) (r : Outcome) (out : List ℕ) (m : Meets t s area r out) where
+  -- What is promised of the outcome and the area holds of what meets the contract.
+  of-code : (P : Outcome → List ℕ → Type 0) → P (outcome t s area) (areaAfter t s area) → P r out
+  of-code P p = subst (λ (o : Outcome). P o out) (sym (m .0)) (subst (P (outcome t s area)) (sym (m .1)) p)
 
 pub demand-one : DemandOne
 demand-one = record {
-  refused = λ t s area r out m n.
-      let k = sound-stays .refused t s area (λ e. n (ap (λ (o : Outcome). o .number) (m .0) ∙ e)) in (
-        ap (λ (o : Outcome). o .timetable) (m .0) ∙ k .0,
-        ap (λ (o : Outcome). o .written) (m .0) ∙ k .1,
-        m .1 ∙ k .2,
-      );
-  accepted = λ t s area r out m e.
-      subst (λ (o : Outcome). isSound (o .timetable) ≡ true) (sym (m .0))
-      (sound-stays .accepted t s area (sym (ap (λ (o : Outcome). o .number) (m .0)) ∙ e));
+  given = λ t s area r out m read e x p. let k = stages-kept .refused t s area read e x p in (m .0 ∙ k .0, m .1 ∙ k .1);
+  only = λ t s area r out m n l read e.
+      of-code t s area r out m
+      (λ (o : Outcome) (_ : List ℕ). o .number ≢ ACCEPTED → o .number ≢ NO-SCHEDULE → Refuses t read (length area) (some (record { number = o .number; place = o .place })))
+      (stages-kept .refused-only t s area read e) n l;
+  refused = λ t s area r out m.
+      of-code t s area r out m (λ (o : Outcome) (a : List ℕ). o .number ≢ ACCEPTED → (o .timetable ≡ t) × (o .written ≡ 0) × (a ≡ area))
+      (sound-stays .refused t s area);
+  sound = λ t s area r out m.
+      of-code t s area r out m (λ (o : Outcome) (_ : List ℕ). o .number ≡ ACCEPTED → isSound (o .timetable) ≡ true) (sound-stays .accepted t s area);
 }
 
 pub demand-two : DemandTwo
-demand-two t s area r r′ out out′ p q = change-unique t s area r r′ out out′ p q
+demand-two = record {
+  accepted = λ t s area r out m n read e. so t s area read e r out (of-code t s area r out m (Gives t s area) (exact .given t s area)) n;
+  exactly = λ t s area r out. (
+    (λ m. of-code t s area r out m (Gives t s area) (exact .given t s area)),
+    (λ g. exact .one t s area r (outcome t s area) out (areaAfter t s area) g (exact .given t s area)),
+  );
+}
+  where
+    so : (t : Timetable) (s area : List ℕ) (read : ReadRequest) → RequestRead s read → (r : Outcome) (out : List ℕ) → Gives t s area r out
+        → r .number ≡ ACCEPTED → Accepted t (read .request) area r out
+    so t s area read e r out (early a d x p) n =
+        absurd
+        (let k = refusal-number t s (length area) x (subst (λ (y : ReadRequest). Refuses t y (length area) (some x)) (sym (request-is s a d)) p) in
+        omega (arith, k .0, n))
+    so t s area read e r out (schedule a d p u v w) n =
+        subst (λ (y : ReadRequest). Accepted t (y .request) area u v) (sym (request-is s a d) ∙ request-is s read e) w
+    so t s area read e r out (wanting a d p k w) n = absurd (omega arith)
 
 -- A controller's history is that of the requests it was sent.
 sent-history : (h : History) → Serves h → (sent : List Sent) × (h ≡ historyOf sent)
@@ -54,17 +83,24 @@ sent-history h (refuses g v s area r out m n) =
     let a : answer (present g) s (length area) .number ≢ ACCEPTED = λ e. n (ap (λ (o : Outcome). o .number) (m .0) ∙ e) in
     (q ∷ w .0, sym (sent-refused g q a) ∙ ap (λ (x : History). send x q) (w .1))
 
--- No slot of a history's run serves two, at a slot and two ids.
-abbrev OneOwnerAt : History → ℕ → ℕ → ℕ → Type 0
-OneOwnerAt g x i j =
-    i < IDS → j < IDS → serves (inForce g x) (coreSlot x) i ≡ true → serves (inForce g x) (coreSlot x) j ≡ true → i ≡ j
+-- What holds of the history of any requests holds of a controller.
+of-controller : (P : History → Type 0) → ((sent : List Sent) → P (historyOf sent)) → (h : History) → Serves h → P h
+of-controller P p h v = let w = sent-history h v in subst P (sym (w .1)) (p (w .0))
 
 pub demand-three : DemandThree
 demand-three = record {
-  windows = λ h v i a n.
-      let w = sent-history h v in
-      subst (λ (x : History). Listed (runOf x) i a n → Since (runOf x) i a n → KeepsBound (runOf x) i a n) (sym (w .1)) (windows (w .0) i a n);
-  one-owner = λ h v x i j.
-      let w = sent-history h v in
-      subst (λ (g : History). OneOwnerAt g x i j) (sym (w .1)) (one-owner (w .0) x i j);
+  windows = of-controller WindowsKept windows;
+  one-owner = of-controller ServesOne one-owner;
+  shortest = λ t s area r out m p. of-code t s area r out m (λ (o : Outcome) (_ : List ℕ). ShortestOf t (readRequest s .request) o) (shortest t s area p);
+}
+
+pub deficit-means : DeficitMeans
+deficit-means = of-controller ShortfallMeans kept-shortfall
+
+pub queries-of-code : QueriesOfCode
+queries-of-code = record {
+  owner = λ t x r. ((λ e. subst (OwnerGiven t x) (sym e) (queries .owner t x)), (λ g. sym (queries .owner-only t x r g)));
+  standing = λ t i x r. ((λ e. subst (StandingGiven t i x) (sym e) (queries .standing t i x)), (λ g. sym (queries .standing-only t i x r g)));
+  owner-run = λ h v x l b r e. e ∙ of-controller QueriesTell (queries .tell) h v .owner x l b;
+  standing-run = λ h v i x k l b li r e. e ∙ of-controller QueriesTell (queries .tell) h v .standing i x k l b li;
 }

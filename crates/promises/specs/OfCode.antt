@@ -1,19 +1,34 @@
--- Demands 1 to 3, of the code: of whatever meets the contract of `change`, and of a controller that is made of such calls.
+-- Demands 1 to 3, of the code: of whatever meets the contract of `change` or of a query, and of a controller that is made of such calls.
+use lib.ListN.{length}
 use mathlib.Core.Bool.{true}
 use mathlib.Core.List.{List, [], _∷_}
-use mathlib.Core.Logic.{_≢_}
+use mathlib.Core.Logic.{_↔_, _≢_}
+use mathlib.Core.Option.{none, some}
 use mathlib.Core.Path.{_≡_}
-use Prim.Native.Nat.{ℕ, _<_}
+use Prim.Native.Nat.{ℕ, _-_, _≤_, _<_}
 use Rattle.change.specs.Change.{outcome, areaAfter}
 use Rattle.change.specs.declared.Outcome.{Outcome}
-use Rattle.records.specs.Numbers.{ACCEPTED}
-use Rattle.slots.specs.Clocks.{coreSlot}
-use Rattle.slots.specs.Limits.{IDS}
-use Rattle.slots.specs.Slots.{Since, Listed, KeepsBound}
+use Rattle.change.specs.declared.OwnerAnswer.{OwnerAnswer}
+use Rattle.change.specs.declared.StandingAnswer.{StandingAnswer}
+use Rattle.change.specs.Given.{Accepted, Gives, refusedWith}
+use Rattle.change.specs.Queried.{OwnerGiven, StandingGiven, ownerAnswer, standingAnswer}
+use Rattle.change.specs.Queries.{ownerQuery, standingQuery}
+use Rattle.change.specs.Refused.{Refuses}
+use Rattle.promises.specs.Promises.{Passes, ServesOne, ShortestOf, ShortfallMeans, WindowsKept}
+use Rattle.records.specs.declared.ReadRequest.{ReadRequest}
+use Rattle.records.specs.declared.Refusal.{Refusal}
+use Rattle.records.specs.Numbers.{ACCEPTED, NO-SCHEDULE}
+use Rattle.records.specs.Reads.{RequestRead}
+use Rattle.records.specs.Request.{readRequest}
+use Rattle.slots.specs.Clocks.{coreSlot, sliceCount}
+use Rattle.slots.specs.declared.CoreSlot.{CoreSlot}
+use Rattle.slots.specs.Limits.{IDS, LAST-SLOT}
+use Rattle.slots.specs.Slots.{shortfall, supply}
 use Rattle.timetable.specs.declared.Timetable.{Timetable}
-use Rattle.timetable.specs.History.{History, present, inForce, runOf}
+use Rattle.timetable.specs.History.{History, present, runOf}
+use Rattle.timetable.specs.Owner.{ownerNumber}
 use Rattle.timetable.specs.Sound.{isSound}
-use Rattle.timetable.specs.Timetable.{serves}
+use Rattle.timetable.specs.Timetable.{lists}
 
 -- The contract of `change`: the outcome r and the area afterwards, `out`, for a timetable, the bytes of a request and an area.
 abbrev pub Meets : Timetable → List ℕ → List ℕ → Outcome → List ℕ → Type 0
@@ -27,22 +42,45 @@ pub data Serves : History → Type 0 where
   refuses : (h : History) → Serves h → (s area : List ℕ) (r : Outcome) (out : List ℕ) → Meets (present h) s area r out → r .number ≢ ACCEPTED
       → Serves h
 
--- Demand 1: a refusal hands back the old timetable and touches no byte of the answer area; an acceptance is sound.
+-- Demand 1: a damaged request, an unsound timetable or too small an area is refused by document 01's number and place, and so is nothing else; no refusal
+-- touches a byte of the area or the timetable; an acceptance is sound.
 pub record DemandOne : Type 0 where
+  pub given : (t : Timetable) (s area : List ℕ) (r : Outcome) (out : List ℕ) → Meets t s area r out
+      → (read : ReadRequest) → RequestRead s read → (x : Refusal) → Refuses t read (length area) (some x)
+      → (r ≡ refusedWith t (x .number) (x .place) 0) × (out ≡ area)
+  pub only : (t : Timetable) (s area : List ℕ) (r : Outcome) (out : List ℕ) → Meets t s area r out → r .number ≢ ACCEPTED → r .number ≢ NO-SCHEDULE
+      → (read : ReadRequest) → RequestRead s read → Refuses t read (length area) (some (record { number = r .number; place = r .place }))
   pub refused : (t : Timetable) (s area : List ℕ) (r : Outcome) (out : List ℕ) → Meets t s area r out → r .number ≢ ACCEPTED
       → (r .timetable ≡ t) × (r .written ≡ 0) × (out ≡ area)
-  pub accepted : (t : Timetable) (s area : List ℕ) (r : Outcome) (out : List ℕ) → Meets t s area r out → r .number ≡ ACCEPTED
+  pub sound : (t : Timetable) (s area : List ℕ) (r : Outcome) (out : List ℕ) → Meets t s area r out → r .number ≡ ACCEPTED
       → isSound (r .timetable) ≡ true
 
--- Demand 2: for all input there is one outcome and one content of the answer area, that of document 01's rules.
-abbrev pub DemandTwo : Type 0
-DemandTwo =
-    (t : Timetable) (s area : List ℕ) (r r′ : Outcome) (out out′ : List ℕ) → Meets t s area r out → Meets t s area r′ out′
-    → (r ≡ r′) × (out ≡ out′)
+-- Demand 2: an accepted request gives exactly the transition, cyclic slots and answer record of the rules: its outcome and its area are as `Accepted` says,
+-- rule by rule; and whatever is as the rules say is what the code gives, so that they leave one outcome and one content of the area.
+pub record DemandTwo : Type 0 where
+  pub accepted : (t : Timetable) (s area : List ℕ) (r : Outcome) (out : List ℕ) → Meets t s area r out → r .number ≡ ACCEPTED
+      → (read : ReadRequest) → RequestRead s read → Accepted t (read .request) area r out
+  pub exactly : (t : Timetable) (s area : List ℕ) (r : Outcome) (out : List ℕ) → Meets t s area r out ↔ Gives t s area r out
 
--- Demand 3: every window of the run that the controller makes keeps its bound, and no slot serves two.
--- (The shortest transition and the refusal for want of a schedule are promise 5, about the outcome itself.)
+-- Demand 3: every window of the run that the controller makes keeps its bound; no slot serves two; the transition is the shortest, and a request that
+-- passes the stages before is refused for want of a schedule exactly if every length up to its limit is passed over or can't be reached.
 pub record DemandThree : Type 0 where
-  pub windows : (h : History) → Serves h → (i a n : ℕ) → Listed (runOf h) i a n → Since (runOf h) i a n → KeepsBound (runOf h) i a n
-  pub one-owner : (h : History) → Serves h → (x i j : ℕ) → i < IDS → j < IDS → serves (inForce h x) (coreSlot x) i ≡ true
-      → serves (inForce h x) (coreSlot x) j ≡ true → i ≡ j
+  pub windows : (h : History) → Serves h → WindowsKept h
+  pub one-owner : (h : History) → Serves h → ServesOne h
+  pub shortest : (t : Timetable) (s area : List ℕ) (r : Outcome) (out : List ℕ) → Meets t s area r out → Passes t s (length area)
+      → ShortestOf t (readRequest s .request) r
+
+-- What the lab reads: the kept shortfall is the largest excess of entitlement over supply, across the changes of a controller.
+abbrev pub DeficitMeans : Type 0
+DeficitMeans = (h : History) → Serves h → ShortfallMeans h
+
+-- The queries: each answers or refuses as document 01 says, with zeros beside a refusal, and leaves one answer; what it answers of a controller's
+-- timetable is the run's owner, and the run's shortfall and supply.
+pub record QueriesOfCode : Type 0 where
+  pub owner : (t : Timetable) (x : CoreSlot) (r : OwnerAnswer) → (r ≡ ownerQuery t x) ↔ OwnerGiven t x r
+  pub standing : (t : Timetable) (i : ℕ) (x : CoreSlot) (r : StandingAnswer) → (r ≡ standingQuery t i x) ↔ StandingGiven t i x r
+  pub owner-run : (h : History) → Serves h → (x : ℕ) → x ≤ LAST-SLOT → present h .request .0 ≤ x
+      → (r : OwnerAnswer) → r ≡ ownerQuery (present h) (coreSlot x) → r ≡ ownerAnswer ACCEPTED (ownerNumber (runOf h x .owner))
+  pub standing-run : (h : History) → Serves h → (i x : ℕ) → i < IDS → x ≤ LAST-SLOT → present h .base .0 ≤ x → lists (present h) i ≡ true
+      → (r : StandingAnswer) → r ≡ standingQuery (present h) i (coreSlot x)
+      → r ≡ standingAnswer ACCEPTED (shortfall (runOf h) i x) (sliceCount (supply (runOf h) i (present h .base .0) (x - present h .base .0)))

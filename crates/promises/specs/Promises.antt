@@ -2,34 +2,40 @@
 -- computed; proofs/Kept.antt proves each under its name. Two wrong programs that a promise shuts out stand under it.
 use lib.ListN.{getD, length}
 use mathlib.Core.Bool.{true}
-use mathlib.Core.List.{List}
+use mathlib.Core.List.{List, [], _∷_}
 use mathlib.Core.Logic.{_↔_, _≢_, _⊎_}
-use mathlib.Core.Option.{Option, none, some}
+use mathlib.Core.Option.{none, some}
 use mathlib.Core.Path.{_≡_}
 use Prim.Native.Nat.{ℕ, suc, _+_, _-_, _*_, _≤_, _<_}
-use Rattle.change.specs.Change.{answer, outcome, areaAfter, startPlan}
+use Rattle.change.specs.Change.{outcome, areaAfter, startPlan}
 use Rattle.change.specs.Controller.{Sent, historyOf}
+use Rattle.change.specs.declared.Outcome.{Outcome}
+use Rattle.change.specs.declared.OwnerAnswer.{OwnerAnswer}
+use Rattle.change.specs.declared.StandingAnswer.{StandingAnswer}
+use Rattle.change.specs.Given.{AtRequest, Gives, refusedWith}
+use Rattle.change.specs.Queried.{OwnerGiven, StandingGiven}
 use Rattle.change.specs.Queries.{ownerQuery, standingQuery}
 use Rattle.change.specs.Refused.{Refuses}
-use Rattle.change.specs.Stages.{refusalBefore}
-use Rattle.placement.specs.Any.{CyclicPlacement}
+use Rattle.change.specs.Stages.{startEntries}
+use Rattle.placement.specs.Any.{CyclicPlacement, NoPlacement}
 use Rattle.placement.specs.Placement.{Place, placement, settle}
 use Rattle.records.specs.declared.Reading.the-variants.{Whole, Refused}
 use Rattle.records.specs.declared.ReadRequest.{ReadRequest}
 use Rattle.records.specs.declared.Refusal.{Refusal}
 use Rattle.records.specs.declared.Request.{Request}
-use Rattle.records.specs.Numbers.{ACCEPTED, NO-SCHEDULE}
+use Rattle.records.specs.Numbers.{ACCEPTED, NOT-SOUND, SMALL-AREA, BAD-FIELD, OUT-OF-RANGE, NOT-RISING, TOO-EARLY, OVERFULL, BEHIND, NO-SCHEDULE, NOT-LISTED}
 use Rattle.records.specs.Reads.{Bytes, RequestRange, RefusalRange, RequestRead}
 use Rattle.records.specs.Request.{readRequest}
 use Rattle.records.specs.Written.{requestRecord}
 use Rattle.slots.specs.Below.{count}
 use Rattle.slots.specs.Clocks.{coreSlot, sliceCount}
-use Rattle.slots.specs.Limits.{IDS, WHOLE, AREA, LAST-SLOT}
+use Rattle.slots.specs.declared.CoreSlot.{CoreSlot}
+use Rattle.slots.specs.Limits.{IDS, LONGEST, WHOLE, AREA, LARGEST-BOUND, LARGEST-K, LAST-SLOT}
 use Rattle.slots.specs.Slots.{entitlement, supply, shortfall, Since, Listed, KeepsBound}
 use Rattle.timetable.specs.declared.Entry.{Entry}
 use Rattle.timetable.specs.declared.Timetable.{Timetable}
 use Rattle.timetable.specs.Owner.{ownerNumber}
-use Rattle.timetable.specs.History.{present, inForce, runOf}
+use Rattle.timetable.specs.History.{History, present, inForce, runOf}
 use Rattle.timetable.specs.Sound.{entriesInRange, isSound}
 use Rattle.timetable.specs.Timetable.{emptyTimetable, entryOf, lists, serves, shortfallAt}
 use Rattle.transition.specs.Reach.{isSearched, HasPlacement, PassedOver, CannotReach}
@@ -48,55 +54,65 @@ pub record SoundStays : Type 0 where
 -- 2. After any requests from an empty controller, take any window of slots, from slot a to its last slot a + n, however long and across as many changes
 -- as it holds, since id i was last newly listed and while it stays so: its slots exceed its entitlement less its bound, the one in force in the last slot.
 -- (Shuts out: shortfall counted from the request slot; the old weight kept until the base; a controller that does the first request and then only says 0.)
+abbrev pub WindowsKept : History → Type 0
+WindowsKept h = (i a n : ℕ) → Listed (runOf h) i a n → Since (runOf h) i a n → KeepsBound (runOf h) i a n
+
 abbrev pub Windows : Type 0
-Windows =
-    (sent : List Sent) (i a n : ℕ) → Listed (runOf (historyOf sent)) i a n → Since (runOf (historyOf sent)) i a n
-    → KeepsBound (runOf (historyOf sent)) i a n
+Windows = (sent : List Sent) → WindowsKept (historyOf sent)
 
 -- 3. No slot serves two, in the transition and in the cycle: not by the owners, not by the offsets.
 -- (Shuts out: two partitions at offsets of one class; a cycle that starts before the transition ends.)
+abbrev pub ServesOne : History → Type 0
+ServesOne h =
+    (x i j : ℕ) → i < IDS → j < IDS → serves (inForce h x) (coreSlot x) i ≡ true → serves (inForce h x) (coreSlot x) j ≡ true → i ≡ j
+
 abbrev pub OneOwner : Type 0
-OneOwner =
-    (sent : List Sent) (x i j : ℕ) → i < IDS → j < IDS → serves (inForce (historyOf sent) x) (coreSlot x) i ≡ true
-    → serves (inForce (historyOf sent) x) (coreSlot x) j ≡ true → i ≡ j
+OneOwner = (sent : List Sent) → ServesOne (historyOf sent)
 
 -- 4. Rule 4 fails exactly if no cyclic placement at all keeps the bounds, and where it succeeds its answer is one.
 -- (Shuts out: the earliest free offset taken; a search that gives up before its last offset.)
 pub record PlacementComplete : Type 0 where
   pub fails : (es : List Entry) → length es ≡ IDS → entriesInRange es ≡ true
-      → (placement es ≡ none) ↔ ((offsets : ℕ → ℕ) → CyclicPlacement es offsets → ⊥)
+      → (placement es ≡ none) ↔ NoPlacement es
   pub succeeds : (es : List Entry) → length es ≡ IDS → entriesInRange es ≡ true → (ps : List Place) → placement es ≡ some ps
       → CyclicPlacement es (λ i. entryOf (settle es ps) i .offset)
+
+-- A request, by its bytes, passes the stages before the search.
+abbrev pub Passes : Timetable → List ℕ → ℕ → Type 0
+Passes t s area = Refuses t (readRequest s) area none
 
 -- 5. For a request that passes the stages before the search: it is accepted with length n exactly if n is at most T and has a cyclic placement, and every
 -- shorter length is passed over; it is refused for want of a schedule exactly if every length up to T is passed over or can't be reached.
 -- (Shuts out: a controller that refuses everything; one that tries length T only.)
-pub record Shortest : Type 0 where
-  pub accepted : (t : Timetable) (s : List ℕ) (area : ℕ) → refusalBefore t (readRequest s) area ≡ none → (n : ℕ)
-      → ((answer t s area .number ≡ ACCEPTED) × (answer t s area .timetable .length ≡ n))
-      ↔ ((n ≤ readRequest s .request .limit) × HasPlacement (startPlan t (readRequest s .request)) n
-      × ((m : ℕ) → m < n → PassedOver (startPlan t (readRequest s .request)) m))
-  pub refused : (t : Timetable) (s : List ℕ) (area : ℕ) → refusalBefore t (readRequest s) area ≡ none
-      → (answer t s area .number ≡ NO-SCHEDULE)
-      ↔ ((n : ℕ) → n ≤ readRequest s .request .limit
-      → PassedOver (startPlan t (readRequest s .request)) n ⊎ CannotReach (startPlan t (readRequest s .request)) n)
+pub record ShortestOf (t : Timetable) (q : Request) (r : Outcome) : Type 0 where
+  pub accepted : (n : ℕ) → ((r .number ≡ ACCEPTED) × (r .timetable .length ≡ n))
+      ↔ ((n ≤ q .limit) × HasPlacement (startPlan t q) n × ((m : ℕ) → m < n → PassedOver (startPlan t q) m))
+  pub refused : (r .number ≡ NO-SCHEDULE) ↔ ((n : ℕ) → n ≤ q .limit → PassedOver (startPlan t q) n ⊎ CannotReach (startPlan t q) n)
+
+abbrev pub Shortest : Type 0
+Shortest = (t : Timetable) (s area : List ℕ) → Passes t s (length area) → ShortestOf t (readRequest s .request) (outcome t s area)
 
 -- 6. Tries is the number of lengths up to T whose placement was searched, at most T + 1, and 0 for refusals 1 to 8.
 -- (Shuts out: invented tries; the successful length not counted.)
 pub record Tries : Type 0 where
-  pub before : (t : Timetable) (s : List ℕ) (area : ℕ) (r : Refusal) → refusalBefore t (readRequest s) area ≡ some r → answer t s area .tries ≡ 0
-  pub counted : (t : Timetable) (s : List ℕ) (area : ℕ) → refusalBefore t (readRequest s) area ≡ none
-      → answer t s area .tries ≡ count (suc (readRequest s .request .limit)) (isSearched (startPlan t (readRequest s .request)))
-  pub few : (t : Timetable) (s : List ℕ) (area : ℕ) → refusalBefore t (readRequest s) area ≡ none
-      → answer t s area .tries ≤ suc (readRequest s .request .limit)
+  pub before : (t : Timetable) (s area : List ℕ) (x : Refusal) → Refuses t (readRequest s) (length area) (some x) → outcome t s area .tries ≡ 0
+  pub counted : (t : Timetable) (s area : List ℕ) → Passes t s (length area)
+      → outcome t s area .tries ≡ count (suc (readRequest s .request .limit)) (isSearched (startPlan t (readRequest s .request)))
+  pub few : (t : Timetable) (s area : List ℕ) → Passes t s (length area) → outcome t s area .tries ≤ suc (readRequest s .request .limit)
 
--- 7. Each number before the search is given exactly when document 01 says, with its place: the lowest stage wins, fields from left to right, and within a
--- field 3, then 4, then 5. (Shuts out: an overfull listing refused before its fields are read; the highest id behind named instead of the lowest.)
+-- 7. Whenever document 01 gives a refusal before the search, the outcome has its number and its place, no tries, no bytes and the timetable as given, and
+-- the area is untouched; and every outcome with a number but 0 and 9 is such a refusal. The lowest stage wins, fields from left to right, and within a field
+-- 3, then 4, then 5. (Shuts out: places told modulo 10; numbers 1 to 5 all told as 6; an overfull listing refused before its fields are read.)
 pub record Stages : Type 0 where
-  pub given : (t : Timetable) (read : ReadRequest) (area : ℕ) → Refuses t read area (refusalBefore t read area)
-  pub only : (t : Timetable) (read : ReadRequest) (area : ℕ) (o : Option Refusal) → Refuses t read area o → refusalBefore t read area ≡ o
+  pub refused : (t : Timetable) (s area : List ℕ) (read : ReadRequest) → RequestRead s read → (x : Refusal) → Refuses t read (length area) (some x)
+      → (outcome t s area ≡ refusedWith t (x .number) (x .place) 0) × (areaAfter t s area ≡ area)
+  pub refused-only : (t : Timetable) (s area : List ℕ) (read : ReadRequest) → RequestRead s read
+      → outcome t s area .number ≢ ACCEPTED → outcome t s area .number ≢ NO-SCHEDULE
+      → Refuses t read (length area) (some (record { number = outcome t s area .number; place = outcome t s area .place }))
   pub fields : (s : List ℕ) → RequestRead s (readRequest s)
   pub fields-only : (s : List ℕ) (x : ReadRequest) → RequestRead s x → readRequest s ≡ x
+  -- the entries over which refusals 7 and 8 speak are those of rule 1
+  pub entries : (t : Timetable) (q : Request) → AtRequest t q (startEntries t (q .slot) (q .asks))
 
 -- 8. A record that is read is the one form of what it says, nothing follows it, and what it says is in range; a damaged one gets one number from 3 to 5 and
 -- a place in the record or at its end. (Shuts out: bytes after the last field ignored; two records for one request.)
@@ -109,28 +125,47 @@ pub record OneForm : Type 0 where
 -- 9. The kept shortfall means what the dictionary says: from the base on, at every slot, it is the largest excess of entitlement over supply among the windows
 -- of the listing that end there, the empty one included, counted across changes.
 -- (Shuts out: a deficit counted from the last change; surplus banked below zero.)
-pub record KeptShortfall : Type 0 where
-  pub most : (sent : List Sent) (i a n : ℕ) → i < IDS → lists (present (historyOf sent)) i ≡ true → present (historyOf sent) .base .0 ≤ a + n
-      → Since (runOf (historyOf sent)) i a n
-      → entitlement (runOf (historyOf sent)) i a n
-      ≤ WHOLE * supply (runOf (historyOf sent)) i a n + shortfallAt (present (historyOf sent)) i (coreSlot (a + n))
-  pub attained : (sent : List Sent) (i x : ℕ) → i < IDS → lists (present (historyOf sent)) i ≡ true → present (historyOf sent) .base .0 ≤ x
-      → (a : ℕ) × (n : ℕ) × (a + n ≡ x) × Since (runOf (historyOf sent)) i a n × Listed (runOf (historyOf sent)) i a n
-      × (entitlement (runOf (historyOf sent)) i a n
-      ≡ WHOLE * supply (runOf (historyOf sent)) i a n + shortfallAt (present (historyOf sent)) i (coreSlot x))
+pub record ShortfallMeans (h : History) : Type 0 where
+  pub most : (i a n : ℕ) → i < IDS → lists (present h) i ≡ true → present h .base .0 ≤ a + n → Since (runOf h) i a n
+      → entitlement (runOf h) i a n ≤ WHOLE * supply (runOf h) i a n + shortfallAt (present h) i (coreSlot (a + n))
+  pub attained : (i x : ℕ) → i < IDS → lists (present h) i ≡ true → present h .base .0 ≤ x
+      → (a : ℕ) × (n : ℕ) × (a + n ≡ x) × Since (runOf h) i a n × Listed (runOf h) i a n
+      × (entitlement (runOf h) i a n ≡ WHOLE * supply (runOf h) i a n + shortfallAt (present h) i (coreSlot x))
 
--- 10. The owner query tells who the run's slot belongs to; the standing query tells the run's shortfall and the slices had since the base.
+abbrev pub KeptShortfall : Type 0
+KeptShortfall = (sent : List Sent) → ShortfallMeans (historyOf sent)
+
+-- 10. The owner query tells who the run's slot belongs to; the standing query tells the run's shortfall and the slices had since the base. Each refuses by
+-- its numbers, in their order, with zeros beside them, and not otherwise.
 -- (Shuts out: a query that ignores the transition; slices counted from the request slot.)
-pub record Queries : Type 0 where
-  pub owner : (sent : List Sent) (x : ℕ) → x ≤ LAST-SLOT → present (historyOf sent) .request .0 ≤ x
-      → ownerQuery (present (historyOf sent)) (coreSlot x)
-      ≡ record { number = ACCEPTED; place = 0; owner = ownerNumber (runOf (historyOf sent) x .owner) }
-  pub standing : (sent : List Sent) (i x : ℕ) → i < IDS → x ≤ LAST-SLOT → present (historyOf sent) .base .0 ≤ x
-      → lists (present (historyOf sent)) i ≡ true
-      → standingQuery (present (historyOf sent)) i (coreSlot x)
+pub record QueriesTell (h : History) : Type 0 where
+  pub owner : (x : ℕ) → x ≤ LAST-SLOT → present h .request .0 ≤ x
+      → ownerQuery (present h) (coreSlot x) ≡ record { number = ACCEPTED; place = 0; owner = ownerNumber (runOf h x .owner) }
+  pub standing : (i x : ℕ) → i < IDS → x ≤ LAST-SLOT → present h .base .0 ≤ x → lists (present h) i ≡ true
+      → standingQuery (present h) i (coreSlot x)
       ≡ record {
         number = ACCEPTED;
         place = 0;
-        shortfall = shortfall (runOf (historyOf sent)) i x;
-        slices = sliceCount (supply (runOf (historyOf sent)) i (present (historyOf sent) .base .0) (x - present (historyOf sent) .base .0));
+        shortfall = shortfall (runOf h) i x;
+        slices = sliceCount (supply (runOf h) i (present h .base .0) (x - present h .base .0));
       }
+
+pub record Queries : Type 0 where
+  pub tell : (sent : List Sent) → QueriesTell (historyOf sent)
+  pub owner : (t : Timetable) (x : CoreSlot) → OwnerGiven t x (ownerQuery t x)
+  pub owner-only : (t : Timetable) (x : CoreSlot) (r : OwnerAnswer) → OwnerGiven t x r → ownerQuery t x ≡ r
+  pub standing : (t : Timetable) (i : ℕ) (x : CoreSlot) → StandingGiven t i x (standingQuery t i x)
+  pub standing-only : (t : Timetable) (i : ℕ) (x : CoreSlot) (r : StandingAnswer) → StandingGiven t i x r → standingQuery t i x ≡ r
+
+-- 11. Every outcome, with the area afterwards, is what document 01's rules give, said of the outcome itself; and those rules, so said, leave one outcome and
+-- one content of the area. (Shuts out: a short field taken as R 2; ties to the higher id; 231 bytes told for every acceptance.)
+pub record Exact : Type 0 where
+  pub given : (t : Timetable) (s area : List ℕ) → Gives t s area (outcome t s area) (areaAfter t s area)
+  pub one : (t : Timetable) (s area : List ℕ) (r r′ : Outcome) (out out′ : List ℕ) → Gives t s area r out → Gives t s area r′ out′ → (r ≡ r′) × (out ≡ out′)
+
+-- 12. The names of the numbers and of the limits stand for document 01's figures. (Shuts out: two numbers changed for each other; a T of 65.)
+pub record Figures : Type 0 where
+  pub numbers :
+      (ACCEPTED ∷ NOT-SOUND ∷ SMALL-AREA ∷ BAD-FIELD ∷ OUT-OF-RANGE ∷ NOT-RISING ∷ TOO-EARLY ∷ OVERFULL ∷ BEHIND ∷ NO-SCHEDULE ∷ NOT-LISTED ∷ [])
+      ≡ (0 ∷ 1 ∷ 2 ∷ 3 ∷ 4 ∷ 5 ∷ 6 ∷ 7 ∷ 8 ∷ 9 ∷ 10 ∷ [])
+  pub limits : (IDS ∷ LONGEST ∷ WHOLE ∷ AREA ∷ LARGEST-BOUND ∷ LARGEST-K ∷ LAST-SLOT ∷ []) ≡ (32 ∷ 64 ∷ 256 ∷ 231 ∷ 8 ∷ 8 ∷ 281474976710655 ∷ [])
