@@ -1,1 +1,3 @@
 pub mod OutputLaws
+pub mod RunLaws
+pub mod TurnLaws

@@ -6,11 +6,12 @@ use frames::stream::Next;
 use frames::stream::Places;
 use records::Refusal;
 use timetable::Timetable;
-ghost use lib.ListN.{drop, length, take};
+ghost use lib.ListN.{length};
 ghost use mathlib.Core.Path.{_≡_};
-ghost use Prim.Native.Nat.{_+_, _≤_};
-ghost use Rattle.changer.specs.Answers.{Answered, lengthOf};
-ghost use Rattle.frames.specs.Buffers.{Inside};
+ghost use Prim.Native.Nat.{suc, _+_, _-_, _^_, _≤_, _<_};
+ghost use Rattle.changer.specs.Answers.{Answered, Turned, Unanswered, lengthOf, startController};
+ghost use Rattle.changer.specs.Runs.{Ran};
+ghost use Rattle.frames.specs.Buffers.{Inside, nextOf, unread};
 ghost use Rattle.frames.specs.Coded.{LINE-ROOM};
 
 // The timetable in force, the next request's ordinal, and where the program stands in its buffers.
@@ -26,9 +27,10 @@ fn main() {
     run(&mut input, &mut out);
 }
 
-// Answers frames until the input ends. A proved loop has to end, so it counts its turns down, from a number that no run uses up.
-fn run(input: &mut [u8], out: &mut [u8])
+// Answers frames until the input ends, and tells how much output still waits: nothing. A proved loop has to end, so it counts its turns down, from a number that no run uses up.
+fn run(input: &mut [u8], out: &mut [u8]) -> usize
     requires { ⌜ LINE-ROOM ≤ length (now out) ⌝ }
+    ensures { λ r. ⌜ (r ≡ 0) × Ran (now (input .entry)) (now (out .entry)) (now (input .exit)) (now (out .exit)) ⌝ }
 {
     let mut s = start();
     let mut turns = u64::MAX;
@@ -36,12 +38,12 @@ fn run(input: &mut [u8], out: &mut [u8])
         turns -= 1;
         s = turn(s, input, out);
     }
-    stream::flush(out, s.places.put);
+    stream::flush(out, s.places.put)
 }
 
 // Nothing read, nothing printed, and the empty timetable.
 fn start() -> Controller
-    ensures { λ r. ⌜ (r .places .from ≡ 0) × (r .places .to ≡ 0) × (r .places .put ≡ 0) ⌝ }
+    ensures { λ r. ⌜ r ≡ startController ⌝ }
 {
     let t = Timetable::empty();
     let p = stream::start();
@@ -56,6 +58,7 @@ fn start() -> Controller
 fn turn(s: Controller, input: &mut [u8], out: &mut [u8]) -> Controller
     requires { ⌜ Inside (s .places) (length (now input)) (length (now out)) ⌝ }
     ensures { λ r. ⌜ Inside (r .places) (length (now (input .entry))) (length (now (out .entry))) ⌝ }
+    ensures { λ r. ⌜ Turned (nextOf (unread (now (input .entry)) (s .places .from) (s .places .to))) s (now (input .entry)) (now (out .entry)) (now (input .exit)) (now (out .exit)) r ⌝ }
 {
     let p = s.places;
     match stream::ahead(input, p.from, p.to) {
@@ -67,7 +70,7 @@ fn turn(s: Controller, input: &mut [u8], out: &mut [u8]) -> Controller
 
 // The same timetable and ordinal, at other places.
 fn moved(s: Controller, places: Places) -> Controller
-    ensures { λ r. ⌜ (r .timetable ≡ s .timetable) × (r .ordinal ≡ s .ordinal) × (r .places ≡ places) ⌝ }
+    ensures { λ r. ⌜ Unanswered s r × (r .places ≡ places) ⌝ }
 {
     let t = s.timetable;
     Controller {
@@ -81,7 +84,7 @@ fn moved(s: Controller, places: Places) -> Controller
 fn answered(s: Controller, input: &[u8], size: usize, out: &mut [u8]) -> Controller
     requires { ⌜ Inside (s .places) (length (now input)) (length (now out)) × (s .places .from + 3 + size ≤ s .places .to) ⌝ }
     ensures { λ r. ⌜ Inside (r .places) (length (now (input .entry))) (length (now (out .entry))) ⌝ }
-    ensures { λ r. ⌜ Answered s (take size (drop (s .places .from + 3) (now (input .entry)))) (now (out .entry)) (now (out .exit)) r ⌝ }
+    ensures { λ r. ⌜ Answered s (now (input .entry)) size (now (out .entry)) (now (out .exit)) r ⌝ }
 {
     let p = s.places;
     let put = stream::room(out, p.put);
@@ -125,7 +128,9 @@ fn length_of(o: Outcome) -> u8
 }
 
 // The next ordinal. It stays at the largest number, which no run reaches.
-fn after(ordinal: u64) -> u64 {
+fn after(ordinal: u64) -> u64
+    ensures { λ r. ⌜ (ordinal < 2 ^ 64 - 1 → r ≡ suc ordinal) × (ordinal ≡ 2 ^ 64 - 1 → r ≡ ordinal) ⌝ }
+{
     if ordinal < u64::MAX {
         ordinal + 1
     } else {

@@ -2,14 +2,14 @@
 use borrow.Author.Tests.{eq-eqb, eqb-true, le-leb, leb-true, lt-leb, ne-eqb}
 use lib.Dec.{eqb, leb}
 use lib.ListN.{List·getD-append, drop, getD, length, length-drop, set, take}
-use lib.Seq.{drop-paste, getD-drop, paste, paste-suc, take-paste}
+use lib.Seq.{drop-paste, getD-drop, length-take-le, paste, paste-suc, take-paste}
 use mathlib.Core.Bool.{Bool, true, false, cond, _&&_}
 use mathlib.Core.List.{List, _++_}
 use mathlib.Core.Path.{_≡_, refl, sym, ap, _∙_}
 use native.Mathlib.Numerals.{add-one}
 use native.Mathlib.Omega.{arith}
 use Prim.Native.Nat.{ℕ, _+_, _*_, _≤_, _<_, zero-le}
-use Rattle.frames.specs.Coded.{headOf}
+use Rattle.frames.specs.Coded.{headOf, overlaid}
 use Rattle.frames.specs.declared.Head.the-variants.{Content, Bad}
 use Rattle.frames.specs.Program.{FRAME-TAG, LONGEST-FRAME, isFrame}
 use Rattle.records.specs.Request.{lengthAt, numberAt}
@@ -127,3 +127,8 @@ module _ (l : List ℕ) (from i : ℕ) where
       let z : i ≡ 0 + i = omega arith in
       ap (λ (k : ℕ). take k (moved l from i)) z
       ∙ take-paste l 0 (drop from l) i zero-le (simp length-drop (omega arith))
+
+  -- Behind them stands what stood there.
+  pub moved-over : from + i ≤ length l → moved l from i ≡ overlaid l 0 (take i (drop from l))
+  unfolding overlaid
+  moved-over h = let n : length (take i (drop from l)) ≡ i = length-take-le i (drop from l) (simp length-drop (omega arith)) in rw n refl

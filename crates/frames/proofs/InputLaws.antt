@@ -1,20 +1,60 @@
--- What stands next in the input is what its first bytes say. Assumes nothing.
+-- What stands next in the input is what `nextOf` tells of it. Assumes nothing.
+use borrow.Author.Tests.{le-leb, le-ltb, leb-false, leb-true, lt-leb, lt-ltb, ltb-false, ltb-true}
+use lib.Dec.{leb, ltb}
 use lib.ListN.{drop, getD, length, length-drop, length-take}
 use lib.Seq.{getD-drop, getD-take}
+use mathlib.Core.Bool.{Bool, true, false, cond}
 use mathlib.Core.List.{List}
-use mathlib.Core.Path.{_≡_, ap, _∙_}
+use mathlib.Core.Path.{_≡_, refl, sym, subst, ap, _∙_}
 use native.Mathlib.Omega.{arith}
 use Prim.Native.Nat.{ℕ, _+_, _-_, _≤_, _<_}
+use Rattle.frames.specs.declared.stream.Next.{Next}
 use Rattle.frames.specs.declared.stream.Next.the-variants.{Frame, Part, Bad as none}
-use Rattle.frames.specs.Buffers.{Stands, unread}
+use Rattle.frames.specs.Buffers.{Stands, behindHead, nextOf, unread}
 use Rattle.frames.proofs.FrameLaws.{bad-head, cut-content, cut-head, framed-head, head-framed}
 use Rattle.frames.specs.Coded.{headOf}
 use Rattle.frames.specs.declared.Head.{Head}
 use Rattle.frames.specs.declared.Head.the-variants.{Content, Bad}
 
+module _ (s : List ℕ) where
+  -- What stands behind a header that is there.
+  behind-stands : (h : Head) → headOf (getD s 0 0) (getD s 1 0) (getD s 2 0) ≡ h → 3 ≤ length s → Stands (behindHead h (length s - 3)) s
+  behind-stands (Content n) e there = content (leb n (length s - 3)) refl
+    where
+      content : (b : Bool) → leb n (length s - 3) ≡ b → Stands (cond b (Frame n) Part) s
+      content true f = head-framed s n e (omega (arith, leb-true n (length s - 3) f))
+      content false f = cut-content s n e (omega (arith, leb-false n (length s - 3) f))
+  behind-stands Bad e there = bad-head s there e
+
+  -- What `nextOf` tells of some bytes stands there.
+  pub next-stands : Stands (nextOf s) s
+  unfolding nextOf
+  next-stands = header (ltb (length s) 3) refl
+    where
+      header : (b : Bool) → ltb (length s) 3 ≡ b → Stands (cond b Part (behindHead (headOf (getD s 0 0) (getD s 1 0) (getD s 2 0)) (length s - 3))) s
+      header true e = cut-head s (ltb-true (length s) 3 e)
+      header false e = behind-stands (headOf (getD s 0 0) (getD s 1 0) (getD s 2 0)) refl (ltb-false (length s) 3 e)
+
+  -- A header that is bad is there, whole.
+  pub none-there : nextOf s ≡ none → 3 ≤ length s
+  unfolding nextOf
+  none-there = header (ltb (length s) 3) refl
+    where
+      header : (b : Bool) → ltb (length s) 3 ≡ b → cond b Part (behindHead (headOf (getD s 0 0) (getD s 1 0) (getD s 2 0)) (length s - 3)) ≡ none → 3 ≤ length s
+      header true e f = let z : _≡_ {A = ℕ} 0 1 = cc in absurd (omega arith)
+      header false e f = ltb-false (length s) 3 e
+
+-- An answer that stands there, and is the one that `nextOf` gives.
+abbrev pub Next-is : Next → List ℕ → Type 0
+Next-is r s = Stands r s × (r ≡ nextOf s)
+
+-- The one follows from the other.
+is-next : (r : Next) (s : List ℕ) → r ≡ nextOf s → Next-is r s
+is-next r s e = (subst (λ (n : Next). Stands n s) (sym e) (next-stands s), e)
+
 module _ (l : List ℕ) (from to : ℕ) (order : from ≤ to) (inside : to ≤ length l) where
   -- As many bytes are unread as lie between the places.
-  unread-length : length (unread l from to) ≡ to - from
+  pub unread-length : length (unread l from to) ≡ to - from
   unread-length = simp (length-take, length-drop) (omega arith)
 
   -- They are the input's.
@@ -22,8 +62,9 @@ module _ (l : List ℕ) (from to : ℕ) (order : from ≤ to) (inside : to ≤ l
   unread-byte i h = getD-take (to - from) (drop from l) i 0 h ∙ getD-drop from l i 0
 
   -- A header that is cut off.
-  pub head-cut : to - from < 3 → Stands Part (unread l from to)
-  head-cut h = cut-head (unread l from to) (omega (arith, unread-length))
+  pub head-cut : to - from < 3 → Next-is Part (unread l from to)
+  unfolding nextOf
+  head-cut h = is-next Part (unread l from to) (simp (lt-ltb (length (unread l from to)) 3 (omega (arith, unread-length))))
 
   -- A whole frame has its bytes between the places.
   pub frame-inside : (size : ℕ) → Stands (Frame size) (unread l from to) → from + 3 + size ≤ to
@@ -39,11 +80,16 @@ module _ (l : List ℕ) (from to : ℕ) (order : from ≤ to) (inside : to ≤ l
         let c = unread-byte 2 (omega arith) in
         cc
 
-    pub stands-frame : (n : ℕ) → r ≡ Content n → n ≤ to - from - 3 → Stands (Frame n) (unread l from to)
-    stands-frame n e h = head-framed (unread l from to) n (head-here ∙ e) (omega (arith, unread-length))
+    -- So it decides what stands next.
+    head-next : nextOf (unread l from to) ≡ behindHead r (to - from - 3)
+    unfolding nextOf
+    head-next = rw (le-ltb (length (unread l from to)) 3 (omega (arith, unread-length)), head-here, unread-length) refl
 
-    pub stands-part : (n : ℕ) → r ≡ Content n → to - from - 3 < n → Stands Part (unread l from to)
-    stands-part n e h = cut-content (unread l from to) n (head-here ∙ e) (omega (arith, unread-length))
+    pub stands-frame : (n : ℕ) → r ≡ Content n → n ≤ to - from - 3 → Next-is (Frame n) (unread l from to)
+    stands-frame n e h = is-next (Frame n) (unread l from to) (rw (head-next, e, le-leb n (to - from - 3) h) refl)
 
-    pub stands-none : r ≡ Bad → Stands none (unread l from to)
-    stands-none e = bad-head (unread l from to) (omega (arith, unread-length)) (head-here ∙ e)
+    pub stands-part : (n : ℕ) → r ≡ Content n → to - from - 3 < n → Next-is Part (unread l from to)
+    stands-part n e h = is-next Part (unread l from to) (rw (head-next, e, lt-leb n (to - from - 3) h) refl)
+
+    pub stands-none : r ≡ Bad → Next-is none (unread l from to)
+    stands-none e = is-next none (unread l from to) (rw (head-next, e) refl)

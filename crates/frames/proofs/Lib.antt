@@ -1,3 +1,5 @@
+pub mod BufferLaws
 pub mod FrameLaws
 pub mod InputLaws
 pub mod LineLaws
+pub mod ProgramLaws

@@ -3,7 +3,7 @@ ghost use lib.ListN.{drop, length, take};
 ghost use mathlib.Core.List.{[], _∷_, _++_};
 ghost use mathlib.Core.Path.{_≡_};
 ghost use Prim.Native.Nat.{_+_, _-_, _≤_};
-ghost use Rattle.frames.specs.Coded.{LINE-ROOM, NUMBER-ROOM, Puts, headOf};
+ghost use Rattle.frames.specs.Coded.{LINE-ROOM, NUMBER-ROOM, Puts, headOf, overlaid};
 ghost use Rattle.frames.specs.Program.{badFrame, decimal as Program·decimal, lineOf};
 
 pub mod stream; // stream.rt: a program's two buffers
@@ -49,7 +49,7 @@ pub fn frame_head(tag: u8, high: u8, low: u8) -> Head
 // Moves the bytes from `from` up to `to` to the front of the buffer, and tells how many they are.
 pub fn keep_rest(buf: &mut [u8], from: usize, to: usize) -> usize
     requires { ⌜ (from ≤ to) × (to ≤ length (now buf)) ⌝ }
-    ensures { λ r. ⌜ (r ≡ to - from) × (take r (now (buf .exit)) ≡ take r (drop from (now (buf .entry)))) ⌝ }
+    ensures { λ r. ⌜ (r ≡ to - from) × (take r (now (buf .exit)) ≡ take r (drop from (now (buf .entry)))) × (now (buf .exit) ≡ overlaid (now (buf .entry)) 0 (take r (drop from (now (buf .entry))))) ⌝ }
 {
     let count = to - from;
     let mut i = 0;

@@ -4,11 +4,10 @@ use crate::Head;
 use crate::LINE_ROOM;
 use libc::STDIN_FILENO;
 use libc::STDOUT_FILENO;
-ghost use lib.ListN.{length};
-ghost use mathlib.Core.Bool.{true};
+ghost use lib.ListN.{length, take};
 ghost use mathlib.Core.Path.{_≡_};
 ghost use Prim.Native.Nat.{_+_, _≤_};
-ghost use Rattle.frames.specs.Buffers.{Inside, Stands, lineAt, unread};
+ghost use Rattle.frames.specs.Buffers.{Ended, Filled, Inside, Stands, lineAt, nextOf, startPlaces, unread};
 ghost use Rattle.frames.specs.Coded.{LINE-ROOM};
 
 // The input read and not yet answered, from `from` up to `to`; the output that waits, up to `put`; and whether to go on.
@@ -28,7 +27,7 @@ pub enum Next {
 
 // Nothing read, and nothing printed.
 pub fn start() -> Places
-    ensures { λ r. ⌜ (r .from ≡ 0) × (r .to ≡ 0) × (r .put ≡ 0) × (r .open ≡ true) ⌝ }
+    ensures { λ r. ⌜ r ≡ startPlaces ⌝ }
 {
     Places {
         from: 0,
@@ -41,7 +40,7 @@ pub fn start() -> Places
 // What stands between two places of the input.
 pub fn ahead(input: &[u8], from: usize, to: usize) -> Next
     requires { ⌜ (from ≤ to) × (to ≤ length (now input)) ⌝ }
-    ensures { λ r. ⌜ Stands r (unread (now (input .entry)) from to) ⌝ }
+    ensures { λ r. ⌜ Stands r (unread (now (input .entry)) from to) × (r ≡ nextOf (unread (now (input .entry)) from to)) ⌝ }
 {
     if to - from < HEADER {
         return Next::Part;
@@ -62,14 +61,15 @@ pub fn ahead(input: &[u8], from: usize, to: usize) -> Next
 pub fn filled(s: Places, input: &mut [u8], out: &mut [u8]) -> Places
     requires { ⌜ Inside s (length (now input)) (length (now out)) ⌝ }
     ensures { λ r. ⌜ Inside r (length (now (input .entry))) (length (now (out .entry))) ⌝ }
+    ensures { λ r. ⌜ Filled s (now (input .entry)) (now (out .entry)) (now (input .exit)) (now (out .exit)) r ⌝ }
 {
-    flush(out, s.put);
+    let put = flush(out, s.put);
     let kept = crate::keep_rest(input, s.from, s.to);
     let to = read_behind(input, kept);
     let more = Places {
         from: 0,
         to,
-        put: 0,
+        put,
         open: kept < to,
     };
     if 0 < kept && kept == to {
@@ -82,6 +82,7 @@ pub fn filled(s: Places, input: &mut [u8], out: &mut [u8]) -> Places
 fn read_behind(input: &mut [u8], kept: usize) -> usize
     requires { ⌜ kept ≤ length (now input) ⌝ }
     ensures { λ r. ⌜ (kept ≤ r) × (r ≤ length (now (input .entry))) ⌝ }
+    ensures { λ r. ⌜ take kept (now (input .exit)) ≡ take kept (now (input .entry)) ⌝ }
 {
     let got = libc::read(STDIN_FILENO, &mut input[kept..]);
     kept + io::count(got, &input[kept..])
@@ -90,7 +91,8 @@ fn read_behind(input: &mut [u8], kept: usize) -> usize
 // `bad frame` is put into the output, and nothing follows it.
 pub fn ended(s: Places, out: &mut [u8]) -> Places
     requires { ⌜ (s .put ≤ length (now out)) × (LINE-ROOM ≤ length (now out)) ⌝ }
-    ensures { λ r. ⌜ (r .from ≡ s .from) × (r .to ≡ s .to) × (r .put ≤ length (now (out .entry))) ⌝ }
+    ensures { λ r. ⌜ r .put ≤ length (now (out .entry)) ⌝ }
+    ensures { λ r. ⌜ Ended s (now (out .entry)) (now (out .exit)) r ⌝ }
 {
     let put = room(out, s.put);
     let end = crate::write_bad_frame(out, put);
@@ -110,13 +112,14 @@ pub fn room(out: &[u8], put: usize) -> usize
     if LINE_ROOM <= out.len() - put {
         return put;
     }
-    flush(out, put);
-    0
+    flush(out, put)
 }
 
-// Prints what waits in the output. What cannot be written is lost.
-pub fn flush(out: &[u8], put: usize)
+// Prints what waits in the output, and tells where the next text goes. What cannot be written is lost.
+pub fn flush(out: &[u8], put: usize) -> usize
     requires { ⌜ put ≤ length (now out) ⌝ }
+    ensures { λ r. ⌜ r ≡ 0 ⌝ }
 {
     io::write_all(STDOUT_FILENO, &out[..put]);
+    0
 }

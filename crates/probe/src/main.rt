@@ -4,6 +4,8 @@ use frames::stream;
 use frames::stream::Next;
 use frames::stream::Places;
 ghost use lib.ListN.{length};
+ghost use mathlib.Core.Bool.{true};
+ghost use mathlib.Core.Path.{_≡_};
 ghost use Prim.Native.Nat.{_+_, _≤_};
 ghost use Rattle.frames.specs.Buffers.{Inside};
 ghost use Rattle.frames.specs.Coded.{LINE-ROOM};
@@ -20,9 +22,10 @@ fn main() {
     run(&mut input, &mut out, &mut image, &mut area);
 }
 
-// Answers probes until the input ends. A proved loop has to end, so it counts its turns down, from a number that no run uses up.
-fn run(input: &mut [u8], out: &mut [u8], image: &mut [u8], area: &mut [u8])
+// Answers probes until the input ends, and tells how much output still waits: nothing. A proved loop has to end, so it counts its turns down, from a number that no run uses up.
+fn run(input: &mut [u8], out: &mut [u8], image: &mut [u8], area: &mut [u8]) -> usize
     requires { ⌜ LINE-ROOM ≤ length (now out) ⌝ }
+    ensures { λ r. ⌜ r ≡ 0 ⌝ }
 {
     let mut s = stream::start();
     let mut turns = u64::MAX;
@@ -30,7 +33,7 @@ fn run(input: &mut [u8], out: &mut [u8], image: &mut [u8], area: &mut [u8])
         turns -= 1;
         s = turn(s, input, out, image, area);
     }
-    stream::flush(out, s.put);
+    stream::flush(out, s.put)
 }
 
 // One turn: a whole frame is answered, a part of one waits for more input, and anything else ends it.
@@ -56,6 +59,7 @@ fn answered(
 ) -> Places
     requires { ⌜ Inside s (length (now input)) (length (now out)) × (s .from + 3 + size ≤ s .to) ⌝ }
     ensures { λ r. ⌜ Inside r (length (now (input .entry))) (length (now (out .entry))) ⌝ }
+    ensures { λ r. ⌜ (r .from ≡ s .from + 3 + size) × (r .to ≡ s .to) × (r .open ≡ true) ⌝ }
 {
     let content = s.from + HEADER;
     let end = content + size;

@@ -2,7 +2,8 @@
 use crate::reading;
 use frames::stream;
 ghost use lib.ListN.{length};
-ghost use Prim.Native.Nat.{_+_, _≤_, _<_};
+ghost use mathlib.Core.Path.{_≡_};
+ghost use Prim.Native.Nat.{_+_, _%_, _≤_, _<_};
 
 // One byte.
 pub fn print_byte(out: &mut [u8], put: usize, byte: u8) -> usize
@@ -19,12 +20,12 @@ pub fn print_byte(out: &mut [u8], put: usize, byte: u8) -> usize
 // Where a byte can be put: behind what waits, or at the front once that is printed.
 fn room(out: &[u8], put: usize) -> usize
     ensures { λ r. ⌜ r ≤ length (now (out .entry)) ⌝ }
+    ensures { λ r. ⌜ (put < length (now (out .entry)) → r ≡ put) × (length (now (out .entry)) ≤ put → r ≡ 0) ⌝ }
 {
     if put < out.len() {
         return put;
     }
-    stream::flush(out, out.len());
-    0
+    stream::flush(out, out.len())
 }
 
 // A text as it is.
@@ -121,7 +122,9 @@ fn print_hex(out: &mut [u8], put: usize, byte: u8) -> usize
 }
 
 // The last hexadecimal digit of a number.
-fn digit(n: u8) -> u8 {
+fn digit(n: u8) -> u8
+    ensures { λ r. ⌜ (n % 16 < 10 → r ≡ 48 + n % 16) × (10 ≤ n % 16 → r ≡ 87 + n % 16) ⌝ }
+{
     let d = n % 16;
     if d < 10 { 48 + d } else { 87 + d }
 }

@@ -1,4 +1,4 @@
--- `changer::answered` meets its contract: `change` returns the answer to the frame's content, and the line that is put is that answer's.
+-- `changer::answered` meets its contract: `change` returns the answer to the frame's content, the line that is put is that answer's, and `after` gives the next ordinal.
 -- Assumes nothing.
 use borrow.Author.Needs.{needs}
 use lib.ListN.{drop, replicate, take}
@@ -66,6 +66,11 @@ returns c =
       },
       record {
         timetable = same-timetable (a .s .timetable) request (replicate AREA 0) (g .change .result) refl returned;
+        rises = c .after .ensures .0;
+        stays = c .after .ensures .1;
+        from = refl;
+        to = refl;
+        goes-on = refl;
         put =
             put-answer (a .s .timetable) request (replicate AREA 0) (g .change .result) refl returned
             (a .out .now) (w .write-line .last .0) (m .room .result) (a .s .places .put) (a .s .ordinal) (n .length-of .result) (w .write-line .result)

@@ -1,7 +1,7 @@
--- `changer::turn` keeps the places inside their buffers: a whole frame lies between them, and every other step is its callee's.
+-- `changer::turn` meets its contract: `ahead` tells what stands next, a whole frame lies between the places, and every step is its callee's.
 -- Assumes nothing.
 use borrow.Author.Needs.{needs}
-use mathlib.Core.Path.{subst}
+use mathlib.Core.Path.{_≡_, refl, sym, subst, _∙_}
 use Rattle.frames.specs.declared.stream.Next.{Next}
 use Rattle.frames.specs.Buffers.{Stands, unread}
 use Rattle.frames.proofs.InputLaws.{frame-inside}
@@ -23,7 +23,7 @@ answered-requires c κs =
     let inside = start .pre in (
       inside,
       frame-inside (a .input .now) (a .s .places .from) (a .s .places .to) (inside .unread) (inside .read) (size .size .given .0 .0)
-          (subst (λ (n : Next). Stands n (unread (a .input .now) (a .s .places .from) (a .s .places .to))) (size .size .given .1) (next .ahead .ensures)),
+          (subst (λ (n : Next). Stands n (unread (a .input .now) (a .s .places .from) (a .s .places .to))) (size .size .given .1) (next .ahead .ensures .0)),
     )
 
 enum-told : tie.Need-enum-told
@@ -51,7 +51,10 @@ same-length-2 : tie.Need-same-length-2
 same-length-2 c = search needs
 
 returns : tie.Need-returns
-returns c = search needs
+returns c =
+    let done = c .before .before in
+    let size = done .before .before .before .before in
+    (search needs, rw (sym (size .before .before .ahead .ensures .1) ∙ size .size .given .1) (done .answered .ensures .1, refl))
 
 same-length-3 : tie.Need-same-length-3
 same-length-3 c = search needs
@@ -60,7 +63,12 @@ same-length-4 : tie.Need-same-length-4
 same-length-4 c = search needs
 
 returns-2 : tie.Need-returns-2
-returns-2 c = rw (c .moved .ensures .2) (c .before .before .before .before .before .filled .ensures)
+returns-2 c =
+    let more = c .before .before .before .before .before in
+    let told = more .before .before .before in (
+      rw (c .moved .ensures .1) (more .filled .ensures .0),
+      rw (sym (told .before .before .ahead .ensures .1) ∙ told .enum-told .given .1) (c .moved .ensures .0, rw (c .moved .ensures .1) (more .filled .ensures .1)),
+    )
 
 same-length-5 : tie.Need-same-length-5
 same-length-5 c = search needs
@@ -69,7 +77,13 @@ same-length-6 : tie.Need-same-length-6
 same-length-6 c = search needs
 
 returns-3 : tie.Need-returns-3
-returns-3 c = rw (c .moved2 .ensures .2) (search needs)
+returns-3 c =
+    let over = c .before .before .before in
+    let told = over .before .before in
+    let inside = told .before .before .before .before .before .before .before .pre in (
+      rw (c .moved2 .ensures .1) (search needs),
+      rw (sym (told .before .before .ahead .ensures .1) ∙ told .enum-told2 .given .1) (c .moved2 .ensures .0, rw (c .moved2 .ensures .1) (over .ended .ensures .1), refl),
+    )
 
 pub turn-spec : {M : Type 1} → statement M
 turn-spec =

@@ -23,7 +23,7 @@ answered-requires c κs =
     let inside = start .pre in (
       inside,
       frame-inside (a .input .now) (a .s .from) (a .s .to) (inside .unread) (inside .read) (size .size .given .0 .0)
-          (subst (λ (n : Next). Stands n (unread (a .input .now) (a .s .from) (a .s .to))) (size .size .given .1) (next .ahead .ensures)),
+          (subst (λ (n : Next). Stands n (unread (a .input .now) (a .s .from) (a .s .to))) (size .size .given .1) (next .ahead .ensures .0)),
     )
 
 enum-told : tie.Need-enum-told

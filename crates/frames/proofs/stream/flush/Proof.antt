@@ -1,4 +1,4 @@
--- `frames::stream::flush` is safe: what waits lies in the buffer, so the part that is lent has its length.
+-- `frames::stream::flush` meets its contract: what waits lies in the buffer, so the part that is lent has its length.
 -- Assumes nothing.
 use borrow.Author.Needs.{needs}
 use lib.Seq.{length-take-le}

@@ -1,4 +1,4 @@
--- `frames::stream::room` meets its contract: its test is that of `lineAt`, and an empty buffer has room.
+-- `frames::stream::room` meets its contract: its test is that of `lineAt`, and a buffer where nothing waits has room.
 -- Assumes nothing.
 use borrow.Author.Tests.{le-leb, lt-leb}
 use Rattle.frames.specs.Buffers.{lineAt}
@@ -18,7 +18,7 @@ flush-requires c κs = search needs
 
 returns-2 : tie.Need-returns-2
 unfolding lineAt
-returns-2 c = (search needs, simp (lt-leb _ _ (c .before .if1 .left)))
+returns-2 c = rw (c .flush .ensures) (search needs, simp (lt-leb _ _ (c .before .if1 .left)))
 
 pub room-spec : {M : Type 1} → statement M
 room-spec = tie.close (tie.spec sub-if1 returns flush-requires returns-2)
