@@ -14,8 +14,7 @@ use Rattle.change.proofs.Answers.{Gets, Passes, accepted, acceptedAs, g
 use Rattle.change.proofs.Stages.{stages}
 use Rattle.change.proofs.Start.{length-start, start-at, start-fit}
 use Rattle.change.specs.Change.{Answer, answer, areaAfter, outcome, outcomeOf, startPlan, written}
-use Rattle.change.specs.declared.Outcome.{Outcome}
-use Rattle.change.specs.Given.{AsksBound, Enters, AtRequest, ByRules, Accepted, Wanting, Gives, early, schedule, wanting}
+use Rattle.change.specs.Given.{AsksBound, Enters, AtRequest, ByRules, Wanting, Gives, early, schedule, wanting}
 use Rattle.change.specs.Refused.{Refuses, passes}
 use Rattle.change.specs.Stages.{askedBound, refusalBefore, startEntries, startEntry}
 use Rattle.placement.proofs.Complete.{placement-none, settle-entry, settle-unlisted}
@@ -27,7 +26,6 @@ use Rattle.placement.specs.RuleFour.{ByRuleFour}
 use Rattle.records.proofs.AnswerPlaces.{answer-stands}
 use Rattle.records.proofs.ReadSteps.{request-read}
 use Rattle.records.specs.declared.Ask.{Ask}
-use Rattle.records.specs.declared.Refusal.{Refusal}
 use Rattle.records.specs.declared.Request.{Request}
 use Rattle.records.specs.Request.{askOf, readRequest}
 use Rattle.slots.specs.Limits.{AREA, IDS, LONGEST}

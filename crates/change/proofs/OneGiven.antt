@@ -10,36 +10,34 @@ use mathlib.Core.Path.{_≡_, refl, sym, ap, _∙_, subst}
 use native.Mathlib.Decide.{ℕ-discrete, decLt}
 use native.Mathlib.Omega.{arith}
 use Prim.Native.Nat.{ℕ, suc, _+_, _≤_, _<_}
-use Rattle.change.proofs.GivenLaws.{at-request, gives}
+use Rattle.change.proofs.GivenLaws.{at-request}
 use Rattle.change.proofs.Stages.{stages-only}
 use Rattle.change.proofs.Start.{start-ranged}
-use Rattle.change.specs.Change.{areaAfter, outcome}
 use Rattle.change.specs.declared.Outcome.{Outcome}
 use Rattle.change.specs.Given.{AsksBound, Enters, AtRequest, ByRules, Accepted, Wanting, Gives, early, schedule, wanting, refusedWith}
 use Rattle.change.specs.Refused.{IsBehind, Refuses, passes}
 use Rattle.change.specs.Stages.{refusalBefore, startEntries}
 use Rattle.placement.proofs.RuleFourLaws.{rule-four-one, rule-four-placement}
-use Rattle.placement.specs.Any.{CyclicPlacement, Lists, NoPlacement}
+use Rattle.placement.specs.Any.{Lists, NoPlacement}
 use Rattle.placement.specs.RuleFour.{ByRuleFour}
 use Rattle.records.proofs.AnswerPlaces.{answer-one}
 use Rattle.records.proofs.ReadLaws.{RequestRange, read-in-range}
 use Rattle.records.proofs.ReadSteps.{request-is}
 use Rattle.records.specs.AnswerForm.{AnswerStands}
 use Rattle.records.specs.declared.ReadRequest.{ReadRequest}
-use Rattle.records.specs.declared.Reading.the-variants.{Whole}
 use Rattle.records.specs.declared.Refusal.{Refusal}
 use Rattle.records.specs.declared.Request.{Request}
 use Rattle.records.specs.Numbers.{NO-SCHEDULE}
 use Rattle.records.specs.Reads.{RequestRead}
 use Rattle.records.specs.Request.{askOf, readRequest}
-use Rattle.slots.specs.Limits.{IDS, LONGEST}
+use Rattle.slots.specs.Limits.{IDS}
 use Rattle.timetable.proofs.Sound.{Ranged}
 use Rattle.timetable.specs.declared.Entry.{Entry}
 use Rattle.timetable.specs.declared.Timetable.{Timetable}
-use Rattle.timetable.specs.Timetable.{entryOf, isListed, withOffset}
+use Rattle.timetable.specs.Timetable.{entryOf, isListed}
 use Rattle.transition.proofs.RuleThreeLaws.{goes-kept, owners-one, same-entries, walked-at, walked-ranged, walked-same}
 use Rattle.transition.specs.Reach.{AnyoneBreaks}
-use Rattle.transition.specs.RuleThree.{ByRuleThree, GoesTo, walkedTo}
+use Rattle.transition.specs.RuleThree.{ByRuleThree, walkedTo}
 
 -- ---- rule 1
 

@@ -12,7 +12,7 @@ use Rattle.change.specs.Queried as Queried
 use Rattle.change.specs.Queried.{OwnerGiven, StandingGiven, ownerAnswer}
 use Rattle.change.specs.Queries.{ownerQuery, standing, standingQuery}
 use Rattle.records.specs.Numbers.{ACCEPTED}
-use Rattle.slots.proofs.Below.{first-none, first-some, none-first, some-first, true-false}
+use Rattle.slots.proofs.Below.{first-none, first-some, none-first, some-first}
 use Rattle.slots.specs.Below.{first}
 use Rattle.slots.specs.declared.CoreSlot.{CoreSlot}
 use Rattle.slots.specs.Limits.{IDS, LAST-SLOT}

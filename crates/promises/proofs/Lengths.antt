@@ -1,7 +1,6 @@
 -- Lengths in demand 3's words: rule 4 fails at a length exactly if the length is passed over, and a slot that the urgent rule cannot give breaks a bound
 -- whoever gets it. Assumes nothing.
 use lib.ListN.{length}
-use mathlib.Core.Bool.{false}
 use mathlib.Core.List.{List}
 use mathlib.Core.Logic.{_↔_, _⊎_, inl, inr}
 use mathlib.Core.Option.{Option, none, some}
@@ -9,26 +8,21 @@ use mathlib.Core.Path.{_≡_, refl, sym, ap, _∙_, subst}
 use native.Mathlib.Decide.{decLt}
 use native.Mathlib.Nat.{zero-add}
 use native.Mathlib.Omega.{arith}
-use lib.Dec.{eqb}
-use Prim.Native.Nat.{ℕ, suc, _-_, _*_, _≤_, _<_}
+use Prim.Native.Nat.{ℕ, suc, _-_, _≤_, _<_}
 use Rattle.change.proofs.Answers.{Gets, Passes, refused, accepted, no-slot, no-length, gets}
 use Rattle.change.proofs.Start.{start-fit}
 use Rattle.change.specs.Change.{Answer, answer, startPlan}
 use Rattle.change.specs.Stages.{refusalBefore}
 use Rattle.placement.proofs.Complete.{placement-none, placement-some}
-use Rattle.placement.specs.Any.{Lists, CyclicPlacement}
+use Rattle.placement.specs.Any.{CyclicPlacement}
 use Rattle.placement.specs.Placement.{Place, placement, settle}
 use Rattle.records.specs.declared.Refusal.{Refusal}
 use Rattle.records.specs.declared.Request.{Request}
 use Rattle.records.specs.Numbers.{ACCEPTED, NO-SCHEDULE}
 use Rattle.records.specs.Request.{readRequest}
-use Rattle.slots.proofs.Below.{true-false}
-use Rattle.slots.specs.Limits.{IDS, LONGEST, WHOLE}
-use Rattle.slots.specs.Shortfall.{overSlot}
-use Rattle.slots.specs.Slots.{isOwner}
-use Rattle.timetable.proofs.Ranges.{InRange}
+use Rattle.slots.specs.Limits.{LONGEST}
 use Rattle.timetable.specs.declared.Timetable.{Timetable}
-use Rattle.timetable.specs.Timetable.{entryOf, isListed, weight}
+use Rattle.timetable.specs.Timetable.{entryOf}
 use Rattle.transition.proofs.Plans.{Fit}
 use Rattle.transition.proofs.Reach.{reach-fit, reach-past}
 use Rattle.transition.proofs.Search.{PassedFirst}

@@ -50,6 +50,8 @@ demand-one = record {
 pub demand-two : DemandTwo
 demand-two = record {
   accepted = λ t s area r out m n read e. so t s area read e r out (of-code t s area r out m (Gives t s area) (exact .given t s area)) n;
+  one = λ t s area read e p r r′ out out′ a b.
+      exact .one t s area r r′ out out′ (schedule read e p r out a) (schedule read e p r′ out′ b);
   exactly = λ t s area r out. (
     (λ m. of-code t s area r out m (Gives t s area) (exact .given t s area)),
     (λ g. exact .one t s area r (outcome t s area) out (areaAfter t s area) g (exact .given t s area)),

@@ -56,10 +56,12 @@ pub record DemandOne : Type 0 where
       → isSound (r .timetable) ≡ true
 
 -- Demand 2: an accepted request gives exactly the transition, cyclic slots and answer record of the rules: its outcome and its area are as `Accepted` says,
--- rule by rule; and whatever is as the rules say is what the code gives, so that they leave one outcome and one content of the area.
+-- rule by rule, which leaves one outcome and one content of the area; and of any request, what the code gives is what the rules give, and nothing else.
 pub record DemandTwo : Type 0 where
   pub accepted : (t : Timetable) (s area : List ℕ) (r : Outcome) (out : List ℕ) → Meets t s area r out → r .number ≡ ACCEPTED
       → (read : ReadRequest) → RequestRead s read → Accepted t (read .request) area r out
+  pub one : (t : Timetable) (s area : List ℕ) (read : ReadRequest) → RequestRead s read → Refuses t read (length area) none
+      → (r r′ : Outcome) (out out′ : List ℕ) → Accepted t (read .request) area r out → Accepted t (read .request) area r′ out′ → (r ≡ r′) × (out ≡ out′)
   pub exactly : (t : Timetable) (s area : List ℕ) (r : Outcome) (out : List ℕ) → Meets t s area r out ↔ Gives t s area r out
 
 -- Demand 3: every window of the run that the controller makes keeps its bound; no slot serves two; the transition is the shortest, and a request that
