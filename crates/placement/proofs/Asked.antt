@@ -29,9 +29,8 @@ pub listed-range : (es : List Entry) → entriesInRange es ≡ true → (i : ℕ
 listed-range es h i k l = ranged-from es h .listed i k (lt-ltb 0 (entryOf es i .period) l)
 
 -- The rank of a period, a last offset and an id.
-pub rank-demand : (p l i : ℕ) → l < WHOLE → i < IDS → demandAt ((p * WHOLE + l) * IDS + i) ≡ record { id = i; period = p; last = l }
-rank-demand p l i h k =
-    let r : ℕ = (p * WHOLE + l) * IDS + i in
+pub rank-demand : (p l i r : ℕ) → l < WHOLE → i < IDS → r ≡ (p * WHOLE + l) * IDS + i → demandAt r ≡ record { id = i; period = p; last = l }
+rank-demand p l i r h k e =
     let a : r % IDS ≡ i = omega arith in
     let b : r / (IDS * WHOLE) ≡ p = omega arith in
     let q : r / IDS ≡ p * WHOLE + l = omega arith in

@@ -2,7 +2,7 @@
 -- the same remainder by a place's period. So rule 4 finds the largest such offset. Assumes nothing.
 use borrow.Author.Tests.{eq-eqb, ne-eqb, not-true}
 use lib.Dec.{eqb}
-use mathlib.Core.Bool.{Bool, true, false, cond, not, _||_}
+use mathlib.Core.Bool.{Bool, true, false, not, _||_}
 use mathlib.Core.List.{List, [], _∷_}
 use mathlib.Core.Logic.{_≢_, _⊎_, inl, inr}
 use mathlib.Core.Option.{Option, none, some}
@@ -64,7 +64,7 @@ module _ (ps : List Place) (p : ℕ) (period : Period p) (divide : Divide ps p) 
   all-free-from o h q m z =
       let pos : 0 < WHOLE / p =
       le-div-iff-mul-le {k = p} {x = 1} {y = WHOLE} (period-pos p period) .1 (omega (arith, period-le p period)) in
-      let k : isTaken ps (o + 0 * p) ≡ false = not-true _ (every-at (λ m. not (isTaken ps (o + m * p))) (WHOLE / p) h 0 pos) in
+      let k : isTaken ps (o + 0 * p) ≡ false = not-true _ (every-at _ _ h 0 (omega arith)) in
       let e : o + 0 * p ≡ o = omega arith in
       true-false (taken-in ps o q m z) (rw e at k)
 
@@ -74,7 +74,7 @@ module _ (ps : List Place) (p : ℕ) (period : Period p) (divide : Divide ps p) 
   all-free-is o f =
       every-all
       _
-      (WHOLE / p)
+      _
       (λ m k. ap not (taken-none ps (o + m * p) (free-class ps p o (o + m * p) divide (sym (add-mul-mod-self-right o m p)) f)))
 
   -- Rule 4 takes the largest free offset.
@@ -82,15 +82,15 @@ module _ (ps : List Place) (p : ℕ) (period : Period p) (divide : Divide ps p) 
   unfolding lastFree
   picked zero = at (allFree ps p zero) refl
     where
-      at : (b : Bool) → allFree ps p zero ≡ b → Picked ps zero (cond b (some zero) none)
-      at true e = (omega arith, all-free-from zero e, λ o h k. h)
-      at false e = λ o h k. true-false (all-free-is zero (subst (Free ps) (omega arith) k)) e
-  picked (suc n) = at (allFree ps p (suc n)) refl (lastFree ps p n) (picked n)
+      at : (b : Bool) → allFree ps p zero ≡ b → Picked ps zero (lastFree ps p zero)
+      at true e = rw (lastFree, e) (omega arith, all-free-from zero e, λ o h k. h)
+      at false e = rw (lastFree, e) (λ o h k. true-false (all-free-is zero (subst (Free ps) (omega arith) k)) e)
+  picked (suc n) = at (allFree ps p (suc n)) refl (lastFree ps p n) refl (picked n)
     where
       ne : allFree ps p (suc n) ≡ false → (o : ℕ) → Free ps o → o ≢ suc n
       ne e o k z = true-false (all-free-is (suc n) (subst (Free ps) z k)) e
 
-      at : (b : Bool) → allFree ps p (suc n) ≡ b → (r : Option ℕ) → Picked ps n r → Picked ps (suc n) (elim b [ true ↦ some (suc n) | false ↦ r ])
-      at true e r k = (omega arith, all-free-from (suc n) e, λ o h f. h)
-      at false e none k = λ o h f. k o (omega (arith, ne e o f)) f
-      at false e (some g) k = (omega arith, k .1, λ o h f. k .2 o (omega (arith, ne e o f)) f)
+      at : (b : Bool) → allFree ps p (suc n) ≡ b → (r : Option ℕ) → lastFree ps p n ≡ r → Picked ps n r → Picked ps (suc n) (lastFree ps p (suc n))
+      at true e r q k = let t : Picked ps (suc n) (some (suc n)) = (omega arith, all-free-from (suc n) e, λ o h f. h) in rw (lastFree, e) t
+      at false e none q k = rw (lastFree, e, q) (λ o h f. k o (omega (arith, ne e o f)) f)
+      at false e (some g) q k = rw (lastFree, e, q) (omega arith, k .1, λ o h f. k .2 o (omega (arith, ne e o f)) f)

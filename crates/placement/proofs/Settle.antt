@@ -1,5 +1,5 @@
 -- The entries with the offsets of their places differ from the entries in those offsets only: a place sets its own id's entry. Assumes nothing.
-use lib.ListN.{length, length-set, set}
+use lib.ListN.{length, length-set}
 use lib.Seq.{getD-set-same, getD-set-other}
 use mathlib.Core.List.{List, [], _∷_}
 use mathlib.Core.Logic.{_≢_, inl, inr}
@@ -27,18 +27,16 @@ module _ (es : List Entry) where
   settle-at (p ∷ ps) q m h same = at (ℕ-discrete (p .id) (q .id)) m (λ n. settle-at ps q n h (λ r k. same r (inr k)))
     where
       at : Dec (p .id ≡ q .id) → In q (p ∷ ps) → (In q ps → entryOf (settle es ps) (q .id) ≡ withOffset (q .offset) (entryOf es (q .id)))
-          → entryOf (set (settle es ps) (p .id) (withOffset (p .offset) (entryOf es (p .id)))) (q .id) ≡ withOffset (q .offset) (entryOf es (q .id))
+          → entryOf (settle es (p ∷ ps)) (q .id) ≡ withOffset (q .offset) (entryOf es (q .id))
       at (yes e) n ih =
-          rw (← e, ← same p (inl refl) e)
-          (getD-set-same (settle es ps) (p .id) (withOffset (p .offset) (entryOf es (p .id))) noEntry (omega (arith, length-settle ps)))
+          rw (← e, ← same p (inl refl) e) (getD-set-same (settle es ps) (p .id) _ noEntry (omega (arith, length-settle ps)))
       at (no e) (inl z) ih = absurd (e (ap (λ (x : Place). x .id) (sym z)))
-      at (no e) (inr n) ih =
-          getD-set-other (settle es ps) (p .id) (q .id) (withOffset (p .offset) (entryOf es (p .id))) noEntry (λ k. e (sym k)) ∙ ih n
+      at (no e) (inr n) ih = getD-set-other (settle es ps) (p .id) (q .id) _ noEntry (λ k. e (sym k)) ∙ ih n
 
   -- An id of no place keeps its entry.
   pub settle-other : (ps : List Place) (i : ℕ) → ((q : Place) → In q ps → q .id ≢ i) → entryOf (settle es ps) i ≡ entryOf es i
   unfolding settle
   settle-other [] i ne = refl
   settle-other (p ∷ ps) i ne =
-      getD-set-other (settle es ps) (p .id) i (withOffset (p .offset) (entryOf es (p .id))) noEntry (λ k. ne p (inl refl) (sym k))
+      getD-set-other (settle es ps) (p .id) i _ noEntry (λ k. ne p (inl refl) (sym k))
       ∙ settle-other ps i (λ q m. ne q (inr m))

@@ -7,22 +7,20 @@ use mathlib.Core.Logic.{_↔_}
 use mathlib.Core.Path.{_≡_}
 use native.Mathlib.Nat.{le-div-iff-mul-le}
 use native.Mathlib.Omega.{arith}
-use Prim.Native.Nat.{ℕ, _+_, _-_, _*_, _≤_, _<_}
+use Prim.Native.Nat.{ℕ, _+_, _*_, _≤_, _<_}
 use Rattle.slots.specs.Limits.{WHOLE}
 use Rattle.slots.specs.Shortfall.{keeps, lastOffsetOf, roomOf, weightOf}
 
 -- The bound R is kept exactly where the shortfall is below 256 R.
 pub keeps-iff : (bound s : ℕ) → (keeps bound s ≡ true) ↔ (s < WHOLE * bound)
 unfolding keeps
-keeps-iff bound s = ((λ e. ltb-true s (WHOLE * bound) e), (λ l. lt-ltb s (WHOLE * bound) l))
+keeps-iff bound s = ((λ e. omega (arith, ltb-true s _ e)), (λ l. lt-ltb s _ (omega arith)))
 
 module _ (period bound s : ℕ) where
   -- A partition whose bound is kept bears k further idle slots exactly if k is at most its room.
   pub room-borne : 0 < weightOf period → s < WHOLE * bound → (k : ℕ) → (k ≤ roomOf period bound s) ↔ (s + k * weightOf period < WHOLE * bound)
   unfolding roomOf
-  room-borne w l k =
-      let d = le-div-iff-mul-le {k = weightOf period} {x = k} {y = WHOLE * bound - 1 - s} w in
-      ((λ h. omega (arith, d .0 h)), (λ h. d .1 (omega arith)))
+  room-borne w l k = ((λ h. omega (arith, le-div-iff-mul-le w .0 h)), (λ h. le-div-iff-mul-le w .1 (omega arith)))
 
   -- The last offset is below the period.
   pub last-inside : 0 < period → lastOffsetOf period bound s < period

@@ -1,6 +1,6 @@
 -- The window law, both ways: the shortfall is the largest excess of entitlement over supply among the windows that end there,
 -- so it stays below 256 R exactly if every such window keeps its bound. Assumes nothing.
-use mathlib.Core.Bool.{Bool, true, false, cond}
+use mathlib.Core.Bool.{Bool, true, false}
 use mathlib.Core.Logic.{_≢_, _⊎_, inl, inr}
 use mathlib.Core.Path.{_≡_, refl, sym, ap, subst}
 use native.Mathlib.Decide.{ℕ-discrete}
@@ -9,7 +9,7 @@ use native.Mathlib.Omega.{arith}
 use Prim.Native.Nat.{ℕ, zero, suc, _+_, _*_, _≤_, _<_}
 use Rattle.slots.specs.Limits.{WHOLE}
 use Rattle.slots.specs.Shortfall.{overSlot}
-use Rattle.slots.specs.Slots.{Run, isOwner, own, one, entitlement, supply, shortfall, shortfallOver, Since, KeepsBound}
+use Rattle.slots.specs.Slots.{Run, own, one, entitlement, supply, shortfall, shortfallOver, Since, KeepsBound}
 
 -- One slot loses nothing: what was owed is paid by the slot or still owed.
 pub over-le : (b : Bool) (w s : ℕ) → s + w ≤ WHOLE * one b + overSlot b w s
@@ -27,13 +27,13 @@ module _ (run : Run) (i : ℕ) where
   -- The shortfall at a slot where i is not newly listed is the one at the end of the slot before.
   pub shortfall-suc : (t : ℕ) → run (suc t) .newly i ≡ false → shortfall run i (suc t) ≡ shortfallOver run i t
   unfolding shortfall shortfallOver
-  shortfall-suc t e = rw e
+  shortfall-suc t e = cc
 
   -- Where i is newly listed the shortfall is 0.
   pub shortfall-newly : (t : ℕ) → run t .newly i ≡ true → shortfall run i t ≡ 0
-  unfolding shortfall shortfallOver
+  unfolding shortfall
   shortfall-newly zero e = refl
-  shortfall-newly (suc t) e = ap (λ (b : Bool). cond b 0 (shortfallOver run i t)) e
+  shortfall-newly (suc t) e = cc
 
   since-less : (a n : ℕ) → Since run i a (suc n) → Since run i a n
   since-less a n h m p q = h m p (omega arith)
@@ -168,14 +168,8 @@ pub shortfall-agree : (i : ℕ) (a b : Run) (t : ℕ) → ((x : ℕ) → x ≤ t
 unfolding shortfall own
 shortfall-agree i a b zero h = refl
 shortfall-agree i a b (suc t) h =
-    let k = shortfall-agree i a b t (λ x l. h x (omega arith)) in
-    let e = h t (omega arith) in
-    let f = h (suc t) (omega arith) in
-    λ j. cond (f j .newly i) 0 (overSlot (isOwner i (e j .owner)) (e j .weight i) (k j))
+    cc (shortfall-agree i a b t (λ x l. h x (omega arith)), h t (omega arith), h (suc t) (omega arith))
 
 pub over-agree : (i : ℕ) (a b : Run) (t : ℕ) → ((x : ℕ) → x ≤ t → a x ≡ b x) → shortfallOver a i t ≡ shortfallOver b i t
 unfolding shortfallOver own
-over-agree i a b t h =
-    let k = shortfall-agree i a b t h in
-    let e = h t (omega arith) in
-    λ j. overSlot (isOwner i (e j .owner)) (e j .weight i) (k j)
+over-agree i a b t h = cc (shortfall-agree i a b t h, h t (omega arith))

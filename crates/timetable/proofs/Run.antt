@@ -3,7 +3,7 @@
 use borrow.Author.Tests.{le-leb, lt-leb, eq-eqb, ne-eqb, lt-ltb}
 use lib.Dec.{eqb}
 use lib.ListN.{getD, length, replicate, length-replicate, List·getD-eq-default, getD-replicate}
-use mathlib.Core.Bool.{Bool, true, false, cond, not, _||_}
+use mathlib.Core.Bool.{Bool, true, false}
 use mathlib.Core.List.{[], _∷_}
 use mathlib.Core.Path.{_≡_, refl, sym, ap, ap₂, _∙_, subst, fun-ext}
 use native.Mathlib.Decide.{ℕ-discrete, decLt}
@@ -55,12 +55,12 @@ module _ (t : Timetable) (h : History) where
   -- From its request slot on a timetable is in force, as long as none comes after it.
   pub in-force : (x : ℕ) → t .request .0 ≤ x → inForce (t ∷ h) x ≡ t
   unfolding inForce
-  in-force x l = rw (le-leb (t .request .0) x l)
+  in-force x l = rw (inForce, le-leb)
 
   -- Before it the others are.
   in-force-before : (x : ℕ) → x < t .request .0 → inForce (t ∷ h) x ≡ inForce h x
   unfolding inForce
-  in-force-before x l = rw (lt-leb (t .request .0) x l)
+  in-force-before x l = rw (inForce, lt-leb)
 
   newly-before : (x : ℕ) → x < t .request .0 → newlyListed (t ∷ h) x ≡ newlyListed h x
   unfolding newlyListed
@@ -71,10 +71,15 @@ module _ (t : Timetable) (h : History) where
   unfolding newlyListed
   newly-after x i l = rw (le-leb (t .request .0) x (omega arith), ne-eqb (t .request .0) x (omega arith))
 
-  -- At the request slot a listed id is newly listed if it was not listed before or was newly listed there.
-  newly-at : (i : ℕ) → lists t i ≡ true → newlyListed (t ∷ h) (t .request .0) i ≡ not (lists (present h) i) || newlyListed h (t .request .0) i
+  -- At the request slot a listed id that was not listed before is newly listed,
+  newly-new : (i : ℕ) → lists t i ≡ true → lists (present h) i ≡ false → newlyListed (t ∷ h) (t .request .0) i ≡ true
   unfolding newlyListed
-  newly-at i l = rw (le-leb (t .request .0) (t .request .0) (omega arith), eq-eqb (t .request .0) (t .request .0) refl, l)
+  newly-new i l b = rw (le-leb (t .request .0) (t .request .0) (omega arith), eq-eqb (t .request .0) (t .request .0) refl, l, b)
+
+  -- and one that was is newly listed exactly if it was newly listed there.
+  newly-again : (i : ℕ) → lists t i ≡ true → lists (present h) i ≡ true → newlyListed (t ∷ h) (t .request .0) i ≡ newlyListed h (t .request .0) i
+  unfolding newlyListed
+  newly-again i l b = rw (le-leb (t .request .0) (t .request .0) (omega arith), eq-eqb (t .request .0) (t .request .0) refl, l, b)
 
   -- Before the request slot the run is as it was.
   run-before : (x : ℕ) → x < t .request .0 → runOf (t ∷ h) x ≡ runOf h x
@@ -122,19 +127,13 @@ module _ (t : Timetable) (h : History) where
   unfolding shortfall shortfallOver runOf
   enters i l b zero e = refl
   enters i l b (suc x) e =
-      let o = over-agree i (runOf (t ∷ h)) (runOf h) x (λ y k. run-before y (omega arith)) in
-      ap₂ (λ (a : Bool) (s : ℕ). cond a 0 s) news o
-    where
-      news : newlyListed (t ∷ h) (suc x) i ≡ newlyListed h (suc x) i
-      news =
-          subst (λ (y : ℕ). newlyListed (t ∷ h) y i ≡ newlyListed h y i) e
-          (newly-at i l ∙ ap (λ (c : Bool). not c || newlyListed h (t .request .0) i) b)
+      let n : newlyListed (t ∷ h) (suc x) i ≡ newlyListed h (suc x) i = subst (λ (y : ℕ). newlyListed (t ∷ h) y i ≡ newlyListed h y i) e (newly-again i l b) in
+      cc (n, over-agree i (runOf (t ∷ h)) (runOf h) x (λ y k. run-before y (omega arith)))
 
   -- An id that was not listed before starts at 0.
   starts : (i : ℕ) → lists t i ≡ true → lists (present h) i ≡ false → shortfall (runOf (t ∷ h)) i (t .request .0) ≡ 0
   unfolding runOf
-  starts i l b =
-      shortfall-newly (runOf (t ∷ h)) i (t .request .0) (newly-at i l ∙ ap (λ (c : Bool). not c || newlyListed h (t .request .0) i) b)
+  starts i l b = shortfall-newly (runOf (t ∷ h)) i (t .request .0) (newly-new i l b)
 
   module _ (c : Continues (present h) t) (i : ℕ) (k : i < IDS) (l : lists t i ≡ true)
       (ih : lists (present h) i ≡ true → (x : ℕ) → present h .base .0 ≤ x → shortfall (runOf h) i x ≡ shortfallAt (present h) i (coreSlot x)) where
@@ -143,10 +142,9 @@ module _ (t : Timetable) (h : History) where
     unfolding startShortfall
     enters-run = at (lists (present h) i) refl
       where
-        at : (b : Bool) → lists (present h) i ≡ b
-            → shortfall (runOf (t ∷ h)) i (t .request .0) ≡ cond (lists (present h) i) (shortfallAt (present h) i (t .request)) 0
-        at true e = rw e (enters i l e (t .request .0) refl ∙ ih e (t .request .0) (c .later))
-        at false e = rw e (starts i l e)
+        at : (b : Bool) → lists (present h) i ≡ b → shortfall (runOf (t ∷ h)) i (t .request .0) ≡ startShortfall (present h) (t .request) i
+        at true e = rw (startShortfall, e) (enters i l e (t .request .0) refl ∙ ih e (t .request .0) (c .later))
+        at false e = rw (startShortfall, e) (starts i l e)
 
     -- Along the transition.
     transition-run : (n : ℕ) → n ≤ t .length

@@ -1,5 +1,5 @@
 -- Soundness, from its test to what it says and back, clause by clause. Assumes nothing.
-use borrow.Author.Tests.{lt-ltb, le-ltb, le-leb, eq-eqb, ltb-false, leb-true, eqb-true, not-true}
+use borrow.Author.Tests.{lt-ltb, le-ltb, le-leb, eq-eqb, ltb-false, leb-true, eqb-true}
 use lib.Dec.{eqb, ltb}
 use lib.ListN.{getD}
 use mathlib.Core.Bool.{Bool, true, false, cond, not, _&&_, _||_}
@@ -81,9 +81,8 @@ pub share-from : (e f : Entry) → e .period ∣ WHOLE → f .period ∣ WHOLE �
     → (n : ℕ) → cyclic e n ≡ true → cyclic f n ≡ true → ⊥
 unfolding shareNone
 share-from e f de df h n p q =
-    let m : ℕ = n % WHOLE in
-    let k : not (cyclic e m && cyclic f m) ≡ true = every-at (λ n. not (cyclic e n && cyclic f n)) WHOLE h m (mod-lt n {m = WHOLE} (omega arith)) in
-    true-false (ap₂ _&&_ (sym (cyclic-mod e n de) ∙ p) (sym (cyclic-mod f n df) ∙ q)) (not-true _ k)
+    let k = every-at _ _ h (n % WHOLE) (omega (arith, mod-lt n {m = WHOLE} (omega arith))) in
+    true-false (rw (sym (cyclic-mod e n de) ∙ p, sym (cyclic-mod f n df) ∙ q) at k) refl
 
 pub share-is : (e f : Entry) → ((n : ℕ) → cyclic e n ≡ true → cyclic f n ≡ true → ⊥) → shareNone e f ≡ true
 unfolding shareNone
@@ -151,7 +150,7 @@ sound-from t h =
     record {
       request = leb-true _ _ (f .0);
       size = leb-true _ _ (f .1);
-      base = eqb-true _ _ (e .1);
+      base = omega (arith, eqb-true (t .base .0) _ (e .1));
       owners = every-at _ (t .length) (d .1);
       ranged = r;
       apart = apart-from (t .entries) r (b .1);

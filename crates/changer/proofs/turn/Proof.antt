@@ -1,7 +1,7 @@
 -- `changer::turn` meets its contract: `ahead` tells what stands next, a whole frame lies between the places, and every step is its callee's.
 -- Assumes nothing.
 use borrow.Author.Needs.{needs}
-use mathlib.Core.Path.{_≡_, refl, sym, subst, _∙_}
+use mathlib.Core.Path.{refl, sym, subst, _∙_}
 use Rattle.frames.specs.declared.stream.Next.{Next}
 use Rattle.frames.specs.Buffers.{Stands, unread}
 use Rattle.frames.proofs.InputLaws.{frame-inside}

@@ -1,7 +1,7 @@
 -- `shortfall_after` follows the closed form: nothing is paid before the first own slot; after it, what it leaves and the slots since the last own one are owed.
 -- Every sum is below 256 x 10, and so fits. Assumes nothing.
 use borrow.Author.Needs.{needs}
-use mathlib.Core.Path.{ap, _∙_}
+use mathlib.Core.Path.{ap}
 use native.Mathlib.Nat.{mod-lt}
 use native.Mathlib.Omega.{arith}
 use Prim.Native.Nat.{ℕ, _+_, _-_, _*_, _%_, _≤_, _<_}
@@ -93,11 +93,8 @@ returns-2 c =
     let f = c .before .before .before in
     let k = f .before .before .before in
     let s = k .before in
-    c .after-own .ensures
-    ∙ ap
-    (λ (x : ℕ). s .args .self .shortfall + s .args .self .offset * k .weight .result + k .weight .result - WHOLE + x * k .weight .result)
-    (f .phase .ensures)
-    ∙ after-is (s .args .self) (s .pre) (k .weight .result) (k .weight .ensures) (s .args .n) (f .before .if1 .left)
+    let a = after-is (s .args .self) (s .pre) (k .weight .result) (k .weight .ensures) (s .args .n) (f .before .if1 .left) in
+    omega (arith, c .after-own .ensures, a, ap (λ (x : ℕ). x * k .weight .result) (f .phase .ensures))
 
 pub shortfall-after-spec : {M : Type 1} → statement M
 shortfall-after-spec =
