@@ -1,7 +1,7 @@
 -- What a request gets, whole: a refusal before the search, an acceptance at the length found, or the refusal for want of a schedule. Assumes nothing.
 use mathlib.Core.List.{List, []}
 use mathlib.Core.Option.{Option, none, some}
-use mathlib.Core.Path.{_≡_, refl, sym, ap, _∙_, subst}
+use mathlib.Core.Path.{_≡_, refl}
 use native.Mathlib.Nat.{zero-add}
 use native.Mathlib.Omega.{arith}
 use Prim.Native.Nat.{ℕ, suc, _≤_, _<_}
@@ -24,7 +24,7 @@ use Rattle.transition.proofs.Search.{PassedFirst, Ended, found, missed, exhaust
 use Rattle.transition.specs.declared.Plan.{Plan}
 use Rattle.transition.specs.declared.Searched.{Searched}
 use Rattle.transition.specs.Reach.{reach}
-use Rattle.transition.specs.Transition.{longer, placed, searchFrom}
+use Rattle.transition.specs.Transition.{longer, placed}
 
 -- A request that passes the stages before the search.
 pub record Passes (t : Timetable) (r : Request) : Type 0 where
@@ -68,22 +68,9 @@ module _ (t : Timetable) (s : List ℕ) (area : ℕ) where
   searched : refusalBefore t (readRequest s) area ≡ none → Passes t (readRequest s .request)
       → (x : Searched) → Ended (r .limit) 0 (startPlan t r) x → Gets t s area (answerOf t (readRequest s .request) x)
   unfolding r answerOf numberOf placeOf timetableOf bytesOf placed
-  searched e p x (found k l b q h ps f i) =
-      subst (λ (x : Searched). Gets t s area (answerOf t (readRequest s .request) x)) (sym i)
-      (subst (λ (n : ℕ). Gets t s area (record {
-        number = ACCEPTED;
-        place = 0;
-        tries = suc k;
-        timetable = newTimetable r n (placed q ps);
-        bytes = answerRecord n (q .owners) (placed q ps .entries);
-      }))
-      (sym (zero-add k))
-      (accepted e p k l b q h ps f))
-  searched e p x (missed k l b q h f i) =
-      subst (λ (x : Searched). Gets t s area (answerOf t (readRequest s .request) x)) (sym i)
-      (no-slot e p k l b q h (ap (λ (n : ℕ). longer n q) (sym (zero-add k)) ∙ f))
-  searched e p x (exhausted b q i) =
-      subst (λ (x : Searched). Gets t s area (answerOf t (readRequest s .request) x)) (sym i) (no-length e p b)
+  searched e p x (found k l b q h ps f i) = rw (i, zero-add k) (accepted e p k l b q h ps f)
+  searched e p x (missed k l b q h f i) = rw i (no-slot e p k l b q h (rw zero-add at f))
+  searched e p x (exhausted b q i) = rw i (no-length e p b)
 
   -- A refusal before the search has a number from 1 to 8.
   pub refusal-number : (x : Refusal) → Refuses t (readRequest s) area (some x) → (0 < x .number) × (x .number < NO-SCHEDULE)
@@ -100,13 +87,11 @@ module _ (t : Timetable) (s : List ℕ) (area : ℕ) where
   gets = at (refusalBefore t (readRequest s) area) refl (stages t (readRequest s) area)
     where
       at : (o : Option Refusal) → refusalBefore t (readRequest s) area ≡ o → Refuses t (readRequest s) area o
-          → Gets t s area (elim o [
-            | none ↦ answerOf t (readRequest s .request) (searchFrom (readRequest s .request .limit) 0 (startPlan t (readRequest s .request)))
-            | some r ↦ refuse t r
-          ])
-      at (some x) e p = let k = refusal-number x p in refused x e (k .0) (k .1)
+          → Gets t s area (answer t s area)
+      at (some x) e p = let k = refusal-number x p in rw (e, answerTo) (refused x e (k .0) (k .1))
       at none e (passes a b c d f g) =
-          searched e (record { range = read-in-range s c; later = d; fine = g }) _ (search-ends (readRequest s .request .limit) 0 (startPlan t (readRequest s .request)))
+          rw (e, answerTo)
+          (searched e (record { range = read-in-range s c; later = d; fine = g }) _ (search-ends (readRequest s .request .limit) 0 (startPlan t (readRequest s .request))))
 
   -- An accepted request's timetable continues the one before.
   pub accepted-continues : answer t s area .number ≡ ACCEPTED → Continues t (answer t s area .timetable)

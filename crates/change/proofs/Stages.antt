@@ -46,26 +46,24 @@ module _ (t : Timetable) (read : ReadRequest) (area : ℕ) where
     -- Stage 8.
     stage-8 : Fits es → Refuses t read area (stageBehind es)
     unfolding es stageBehind Stages.behind isBehind
-    stage-8 f = at (first IDS (isBehind es)) refl
+    stage-8 f = at (Stages.behind es) refl
       where
-        at : (o : Option ℕ) → first IDS (isBehind es) ≡ o
-            → Refuses t read area (elim o [ none ↦ none | some i ↦ some (refusal BEHIND i) ])
-        at none e = passes s a w l f (λ i k b. true-false (behind-is es i b) (first-none (isBehind es) IDS e i k))
+        at : (o : Option ℕ) → Stages.behind es ≡ o → Refuses t read area (stageBehind es)
+        at none e = rw (e, stageBehind) (passes s a w l f (λ i k b. true-false (behind-is es i b) (first-none (isBehind es) IDS e i k)))
         at (some i) e =
             let k = first-some (isBehind es) IDS i e in
-            behind s a w l f i (k .0) (behind-from es i (k .1)) (λ j m b. true-false (behind-is es j b) (k .2 j m))
+            rw (e, stageBehind) (behind s a w l f i (k .0) (behind-from es i (k .1)) (λ j m b. true-false (behind-is es j b) (k .2 j m)))
 
     -- Stage 7.
     stage-7 : Refuses t read area (stageOverfull es)
-    unfolding es stageOverfull Stages.overfull
-    stage-7 = at (first IDS (λ i. ltb WHOLE (weightSum es (suc i)))) refl
+    unfolding es stageOverfull stageBehind Stages.overfull Stages.behind
+    stage-7 = at (Stages.overfull es) refl
       where
-        at : (o : Option ℕ) → first IDS (λ i. ltb WHOLE (weightSum es (suc i))) ≡ o
-            → Refuses t read area (elim o [ none ↦ stageBehind es | some i ↦ some (refusal OVERFULL i) ])
-        at none e = stage-8 (λ i k. ltb-false WHOLE (weightSum es (suc i)) (first-none (λ i. ltb WHOLE (weightSum es (suc i))) IDS e i k))
+        at : (o : Option ℕ) → Stages.overfull es ≡ o → Refuses t read area (stageOverfull es)
+        at none e = rw (e, stageOverfull) (stage-8 (λ i k. ltb-false _ _ (first-none _ IDS e i k)))
         at (some i) e =
-            let k = first-some (λ i. ltb WHOLE (weightSum es (suc i))) IDS i e in
-            overfull s a w l i (k .0) (ltb-true WHOLE (weightSum es (suc i)) (k .1)) (λ j m. ltb-false WHOLE (weightSum es (suc j)) (k .2 j m))
+            let k = first-some _ IDS i e in
+            rw (e, stageOverfull) (overfull s a w l i (k .0) (ltb-true _ _ (k .1)) (λ j m. ltb-false _ _ (k .2 j m)))
 
   -- Stage 6.
   stage-6 : isSound t ≡ true → AREA ≤ area → read .reading ≡ Whole → Refuses t read area (stageEarly t (read .request))

@@ -48,9 +48,8 @@ module _ (t : Timetable) (slot : CoreSlot) (asks : List Ask) where
     where
       at : (b : Bool) → ltb 0 (askOf asks i .period) ≡ b
           → (0 < askOf asks i .period) × (entryOf (startEntries t slot asks) i ≡ asked t slot i (askOf asks i))
-      at true e = (ltb-true 0 (askOf asks i .period) e, start-at i k ∙ ap (λ (b : Bool). cond b (asked t slot i (askOf asks i)) noEntry) e)
-      at false e =
-          absurd (true-false l (ap isListed (start-at i k ∙ ap (λ (b : Bool). cond b (asked t slot i (askOf asks i)) noEntry) e)))
+      at true e = (ltb-true 0 (askOf asks i .period) e, start-at i k ∙ rw e)
+      at false e = let z : entryOf (startEntries t slot asks) i ≡ noEntry = start-at i k ∙ rw e in absurd (true-false l (ap isListed z))
 
   -- An id that does not is blank.
   start-blank : (i : ℕ) → i < IDS → isListed (entryOf (startEntries t slot asks) i) ≡ false → entryOf (startEntries t slot asks) i ≡ noEntry
@@ -59,8 +58,9 @@ module _ (t : Timetable) (slot : CoreSlot) (asks : List Ask) where
     where
       at : (b : Bool) → ltb 0 (askOf asks i .period) ≡ b → entryOf (startEntries t slot asks) i ≡ noEntry
       at true e =
-          absurd (true-false (e) (sym (ap isListed (start-at i k ∙ ap (λ (b : Bool). cond b (asked t slot i (askOf asks i)) noEntry) e)) ∙ l))
-      at false e = start-at i k ∙ ap (λ (b : Bool). cond b (asked t slot i (askOf asks i)) noEntry) e
+          let z : entryOf (startEntries t slot asks) i ≡ asked t slot i (askOf asks i) = start-at i k ∙ rw e in
+          absurd (true-false e (sym (ap isListed z) ∙ l))
+      at false e = start-at i k ∙ rw e
 
   -- A bound that is asked is from 1 to 8.
   bound-range : (a : Ask) → a .bound ≤ LARGEST-BOUND → (0 < askedBound a) × (askedBound a ≤ LARGEST-BOUND)

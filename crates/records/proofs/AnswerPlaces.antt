@@ -2,7 +2,7 @@
 -- them all. Assumes nothing.
 use lib.ListN.{drop, getD, length, length-append, length-drop, List·getD-append, take}
 use lib.Seq.{ext-getD, getD-append-add, getD-drop, getD-take, length-take-le}
-use mathlib.Core.Bool.{Bool, true, false, cond}
+use mathlib.Core.Bool.{true}
 use mathlib.Core.List.{List, [], _∷_, _++_, append-assoc}
 use mathlib.Core.Path.{_≡_, refl, sym, ap, _∙_, subst}
 use native.Mathlib.Decide.{ℕ-discrete, decLt}
@@ -12,7 +12,7 @@ use Prim.Native.Nat.{ℕ, suc, _+_, _-_, _*_, _/_, _≤_, _<_}
 use Rattle.records.proofs.AnswerLaws.{answer-bytes, answer-length, answer-run, answerHead, offsets-length}
 use Rattle.records.specs.Answer.{answerRecord, field, offsetFields}
 use Rattle.records.specs.AnswerForm.{AnswerStands, listedBelow, Stand}
-use Rattle.slots.proofs.Below.{count-reaches, count-rises, count-same, true-false}
+use Rattle.slots.proofs.Below.{count-reaches, count-rises, count-same}
 use Rattle.slots.specs.Limits.{AREA, IDS, LONGEST}
 use Rattle.timetable.specs.declared.Entry.{Entry}
 use Rattle.timetable.specs.Timetable.{entryOf, isListed}
@@ -36,15 +36,14 @@ offsetBytes es i = 0x12 ∷ 0 ∷ 2 ∷ i ∷ entryOf es i .offset ∷ []
 -- Among the offset fields of the ids below m, a listed id's stands behind those of the lower listed ids, five bytes each.
 offset-from : (es : List Entry) (m i : ℕ) → i < m → isListed (entryOf es i) ≡ true → Stand (offsetFields es m) (5 * listedBelow es i) (offsetBytes es i)
 unfolding offsetFields field
-offset-from es (suc m) i h l = at (ℕ-discrete i m) (isListed (entryOf es m)) refl (λ k. offset-from es m i k l)
+offset-from es (suc m) i h l = at (ℕ-discrete i m) (λ k. offset-from es m i k l)
   where
-    at : Dec (i ≡ m) → (b : Bool) → isListed (entryOf es m) ≡ b → (i < m → Stand (offsetFields es m) (5 * listedBelow es i) (offsetBytes es i))
-        → Stand (offsetFields es m ++ cond b (offsetBytes es m) []) (5 * listedBelow es i) (offsetBytes es i)
-    at (yes z) true e ih =
-        subst (λ (x : ℕ). Stand (offsetFields es m ++ offsetBytes es m) (5 * listedBelow es x) (offsetBytes es x)) (sym z)
-        (rw (← (offsets-length es m)) (λ k h. getD-append-add (offsetFields es m) (offsetBytes es m) k 0))
-    at (yes z) false e ih = absurd (true-false (ap (λ (x : ℕ). isListed (entryOf es x)) (sym z) ∙ l) e)
-    at (no z) b e ih =
+    at : Dec (i ≡ m) → (i < m → Stand (offsetFields es m) (5 * listedBelow es i) (offsetBytes es i))
+        → Stand (offsetFields es (suc m)) (5 * listedBelow es i) (offsetBytes es i)
+    at (yes z) ih =
+        subst (λ (x : ℕ). Stand (offsetFields es (suc m)) (5 * listedBelow es x) (offsetBytes es x)) (sym z)
+        (rw (rw z at l, ← (offsets-length es m)) (λ k h. getD-append-add (offsetFields es m) _ k 0))
+    at (no z) ih =
         let k : i < m = omega arith in
         let c = count-rises (λ x. isListed (entryOf es x)) i m k l in
         stand-front (offsetFields es m) _ (offsetBytes es i) _ (omega (arith, offsets-length es m)) (ih k)

@@ -24,6 +24,10 @@ use Rattle.slots.specs.Limits.{IDS}
 unfoldable pub listingAt : List ℕ → ℕ → ℕ → List Ask → Listing
 listingAt s at floor asks = readListing (length s) s at floor asks
 
+-- It is the same for the same floor.
+pub listing-floor : (s : List ℕ) (at n m : ℕ) (asks : List Ask) → n ≡ m → listingAt s at n asks ≡ listingAt s at m asks
+listing-floor s at n m asks e = rw e
+
 -- What a field leaves of the listing: the rest with what it lists, or its refusal.
 unfoldable pub listingAfter : List ℕ → List Ask → ListedField → Listing
 listingAfter s asks (listed-value l next) = listingAt s (next .at) (suc (l .id)) (set asks (l .id) (record { period = l .period; bound = l .bound }))

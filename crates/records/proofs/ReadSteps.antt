@@ -1,7 +1,7 @@
 -- What reading a request gives: it goes from field to field, each where the one before ends, and each is in range. Assumes nothing.
 use borrow.Author.Tests.{leb-true, leb-false, lt-leb, le-leb, ltb-true, eqb-true}
 use lib.Dec.{leb, ltb}
-use lib.ListN.{getD, length, set}
+use lib.ListN.{getD, length}
 use mathlib.Core.Bool.{Bool, true, false}
 use mathlib.Core.List.{List}
 use mathlib.Core.Path.{_≡_, refl}
@@ -12,7 +12,6 @@ use Rattle.records.specs.declared.Ask.{Ask}
 use Rattle.records.specs.declared.LimitField.{LimitField}
 use Rattle.records.specs.declared.LimitField.the-variants.{Value as limit-value, Refused as limit-refused}
 use Rattle.records.specs.declared.ListedField.{ListedField}
-use Rattle.records.specs.declared.ListedField.the-variants.{Value as listed-value, Refused as listed-refused}
 use Rattle.records.specs.declared.Listing.{Listing}
 use Rattle.records.specs.declared.Reading.{Reading}
 use Rattle.records.specs.declared.Reading.the-variants.{Whole, Refused}
@@ -74,26 +73,17 @@ pub listing-read : (s : List ℕ) (most at floor : ℕ) (asks : List Ask) → le
 unfolding readListing
 listing-read s zero at floor asks h = end {at = at} (omega arith)
 listing-read s (suc most) at floor asks h =
-    go (leb (length s) at) refl (listedField s at floor) (listed-read s at floor) (λ n f a k. listing-read s most n f a k)
+    go (leb (length s) at) refl (listedField s at floor) refl (listed-read s at floor) (λ n f a k. listing-read s most n f a k)
   where
-    go : (b : Bool) → leb (length s) at ≡ b → (f : ListedField) → ListedRead s at floor f
+    go : (b : Bool) → leb (length s) at ≡ b → (f : ListedField) → listedField s at floor ≡ f → ListedRead s at floor f
         → ((next floor : ℕ) (asks : List Ask) → length s ≤ next + most → ListingRead s next floor asks (readListing most s next floor asks))
-        → ListingRead s at floor asks
-        (elim b [
-          | true ↦ record { reading = Whole; asks = asks }
-          | false ↦
-              elim f [
-                | listed-value l next ↦
-                    readListing most s (next .at) (suc (l .id)) (set asks (l .id) (record { period = l .period; bound = l .bound }))
-                | listed-refused r ↦ record { reading = Refused r; asks = asks }
-              ]
-        ])
-    go true e f g ih = end (leb-true _ _ e)
-    go false e f (ListedRead.wrong p q) ih = stop (leb-false _ _ e) (ListedRead.wrong p q)
-    go false e f (ListedRead.high p q) ih = stop (leb-false _ _ e) (ListedRead.high p q)
-    go false e f (ListedRead.low p q k) ih = stop (leb-false _ _ e) (ListedRead.low p q k)
-    go false e f (ListedRead.value p q k) ih =
-        more (leb-false _ _ e) p q k (ih _ _ _ (omega (arith, listed-range s at p q .ahead)))
+        → ListingRead s at floor asks (readListing (suc most) s at floor asks)
+    go true e f w g ih = rw (e, readListing) (end (leb-true _ _ e))
+    go false e f w (ListedRead.wrong p q) ih = rw (e, readListing, w) (stop (leb-false _ _ e) (ListedRead.wrong p q))
+    go false e f w (ListedRead.high p q) ih = rw (e, readListing, w) (stop (leb-false _ _ e) (ListedRead.high p q))
+    go false e f w (ListedRead.low p q k) ih = rw (e, readListing, w) (stop (leb-false _ _ e) (ListedRead.low p q k))
+    go false e f w (ListedRead.value p q k) ih =
+        rw (e, readListing, w) (more (leb-false _ _ e) p q k (ih _ _ _ (omega (arith, listed-range s at p q .ahead))))
 
 -- A request is read so.
 pub request-read : (s : List ℕ) → RequestRead s (readRequest s)

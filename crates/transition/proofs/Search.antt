@@ -2,7 +2,7 @@
 -- By induction on the lengths that remain. Assumes nothing.
 use mathlib.Core.List.{List}
 use mathlib.Core.Option.{Option, none, some}
-use mathlib.Core.Path.{_≡_, refl, sym, ap, _∙_}
+use mathlib.Core.Path.{_≡_, refl, ap, _∙_}
 use native.Mathlib.Nat.{add-zero}
 use native.Mathlib.Omega.{arith}
 use Prim.Native.Nat.{ℕ, zero, suc, _+_, _≤_, _<_}
@@ -92,7 +92,7 @@ found-here left n plan ps e =
     refl
     ps
     e
-    (ap (λ (x : ℕ). record { ending = Found x; tries = 1; plan = placed plan ps }) (sym (add-zero n)))
+    (rw add-zero)
 
 -- Every search ends in one of the three ways.
 pub search-ends : (left n : ℕ) (plan : Plan) → Ended left n plan (searchFrom left n plan)
@@ -100,31 +100,14 @@ unfolding searchFrom ended reachFrom
 search-ends zero n plan = at (placement (plan .entries)) refl
   where
     at : (o : Option (List Place)) → placement (plan .entries) ≡ o
-        → Ended zero n plan (elim o [ none ↦ ended (Exhausted n) plan | some ps ↦ ended (Found n) (placed plan ps) ])
-    at none e =
-        exhausted (passed-one n plan e) plan (ap (λ (x : ℕ). record { ending = Exhausted x; tries = 1; plan = plan }) (sym (add-zero n)))
-    at (some ps) e = found-here zero n plan ps e
+        → Ended zero n plan (searchFrom zero n plan)
+    at none e = rw (e, searchFrom) (exhausted (passed-one n plan e) plan (rw add-zero))
+    at (some ps) e = rw (e, searchFrom) (found-here zero n plan ps e)
 search-ends (suc left) n plan = at (placement (plan .entries)) refl (longer n plan) refl (λ next. search-ends left (suc n) next)
   where
     at : (o : Option (List Place)) → placement (plan .entries) ≡ o → (q : Option Plan) → longer n plan ≡ q
         → ((next : Plan) → Ended left (suc n) next (searchFrom left (suc n) next))
-        → Ended
-        (suc left)
-        n
-        plan
-        (elim o [
-          | none ↦ elim q [ none ↦ ended (Missed n) plan | some next ↦ passed (searchFrom left (suc n) next) ]
-          | some ps ↦ ended (Found n) (placed plan ps)
-        ])
-    at none e none f ih =
-        missed
-        zero
-        (omega arith)
-        (passed-one n plan e)
-        plan
-        refl
-        (ap (λ (x : ℕ). longer x plan) (add-zero n) ∙ f)
-        (ap (λ (x : ℕ). record { ending = Missed x; tries = 1; plan = plan }) (sym (add-zero n)))
-    at none e (some next) f ih = ended-suc left n plan next (searchFrom left (suc n) next) e f (ih next)
-    at (some ps) e none f ih = found-here (suc left) n plan ps e
-    at (some ps) e (some next) f ih = found-here (suc left) n plan ps e
+        → Ended (suc left) n plan (searchFrom (suc left) n plan)
+    at none e none f ih = rw (e, searchFrom, f) (missed zero (omega arith) (passed-one n plan e) plan refl (rw add-zero f) (rw add-zero))
+    at none e (some next) f ih = rw (e, searchFrom, f) (ended-suc left n plan next (searchFrom left (suc n) next) e f (ih next))
+    at (some ps) e q f ih = rw (e, searchFrom) (found-here (suc left) n plan ps e)

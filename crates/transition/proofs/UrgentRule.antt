@@ -132,9 +132,9 @@ module _ (e : Entry) (r : InRange e) where
 pub unmissed : (es : List Entry) (u : ℕ) → isMissed es u ≡ false → (i : ℕ) → Lists es i → i ≢ u → 0 < room (entryOf es i)
 unfolding isMissed
 unmissed es u h i l n =
-    let k : eqb i u || not (isListed (entryOf es i)) || ltb 0 (room (entryOf es i)) ≡ true =
-    every-at (λ i. eqb i u || not (isListed (entryOf es i)) || ltb 0 (room (entryOf es i))) IDS (not-false _ h) i (l .0) in
-    ltb-true 0 (room (entryOf es i)) (rw (ne-eqb i u n, l .1) at k)
+    let k = every-at _ IDS (not-false _ h) i (l .0) in
+    let b = rw (ne-eqb i u n, l .1) at k in
+    omega (arith, ltb-true)
 
 -- A missed slot has another listed id without room.
 pub missed : (es : List Entry) (u : ℕ) → isMissed es u ≡ true → (i : ℕ) × Lists es i × (i ≢ u) × (room (entryOf es i) ≡ 0)

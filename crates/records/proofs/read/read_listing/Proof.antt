@@ -1,14 +1,15 @@
 -- The invariant: the listing from the first place is the listing from `at` on, with ids from `floor` and what was read so far. Assumes nothing.
 use borrow.Author.Needs.{needs}
 use lib.ListN.{length}
-use mathlib.Core.Path.{_≡_, sym, _∙_}
-use native.Mathlib.Numerals.{add-one}
+use mathlib.Core.Path.{_≡_, sym, ap, _∙_}
 use native.Mathlib.Omega.{arith}
 use Prim.Native.Nat.{_-_}
-use Rattle.records.proofs.NextStep.{Ahead, listed-ahead, listing-end, listing-step, listingAfter, listingAt}
+use Rattle.records.proofs.NextStep.{Ahead, listed-ahead, listing-end, listing-floor, listing-step, listingAfter, listingAt}
 use Rattle.records.proofs.read.read_listing.Statement.{statement}
 use Rattle.records.proofs.read.read_listing.Tie as tie
 use Rattle.records.specs.declared.ListedField.the-variants.{Value}
+use Rattle.records.specs.declared.Reading.the-variants.{Refused}
+use Rattle.records.specs.declared.Refusal.{Refusal}
 use Rattle.records.specs.Request.{noAsks}
 
 abbrev Inv-loop : tie.InvT-loop
@@ -45,11 +46,11 @@ returns : tie.Need-returns Inv-loop μ-loop
 unfolding listingAt listingAfter
 returns c =
     let l = c .before .before .before .before .before .loop in
-    rw (c .refusal .ensures _ (c .before .enum-told .given .1))
-    (sym
+    sym
     (l .inv
     ∙ listing-step _ _ _ (l .asks) (c .before .before .before .before .loop-test .taken) _
-    (sym (c .before .before .before .listed-field .ensures) ∙ c .before .enum-told .given .1)))
+    (sym (c .before .before .before .listed-field .ensures) ∙ c .before .enum-told .given .1)
+    ∙ ap (λ (r : Refusal). record { reading = Refused r; asks = l .asks }) (sym (c .refusal .ensures _ (c .before .enum-told .given .1))))
 
 cast-asks : tie.Need-cast-asks Inv-loop μ-loop
 unfolding Ahead
@@ -75,10 +76,10 @@ loop-again : tie.Need-loop-again Inv-loop μ-loop
 unfolding listingAfter
 loop-again c =
     let l = c .before .before .before .before .before .loop in
-    rw (add-one (c .before .field .given .0 .0 .id))
-    (l .inv
+    l .inv
     ∙ listing-step _ _ _ (l .asks) (c .before .before .before .before .loop-test .taken) _
-    (sym (c .before .before .before .listed-field .ensures) ∙ c .before .field .given .1))
+    (sym (c .before .before .before .listed-field .ensures) ∙ c .before .field .given .1)
+    ∙ listing-floor _ _ _ _ _ (omega arith)
 
 returns-2 : tie.Need-returns-2 Inv-loop μ-loop
 unfolding listingAt
