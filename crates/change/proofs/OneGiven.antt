@@ -166,8 +166,7 @@ module _ (t : Timetable) (q : Request) (range : RequestRange q) (fine : (i : ℕ
       timetable-one t q (a .start) (a .starts) (start-in-range (a .start) (a .starts)) (r .timetable) (r′ .timetable) (a .rules)
       (subst (λ (es : List Entry). ByRules q es (r′ .timetable)) e (b .rules)) in
       let d =
-      answer-one before (r .timetable .length) (r .timetable .owners) (r .timetable .owners) (r .timetable .entries) (r .timetable .entries)
-      (r .written) (r′ .written) out out′ (λ k h. refl) (λ i h. refl) (a .answer)
+      answer-one before (r .timetable .length) (r .timetable .owners) (r .timetable .entries) (r .written) (r′ .written) out out′ (a .answer)
       (subst (λ (x : Timetable). AnswerStands before (x .length) (x .owners) (x .entries) (r′ .written) out′) (sym c) (b .answer)) in
       let f : r .number ≡ r′ .number = a .number ∙ sym (b .number) in
       let g : r .place ≡ r′ .place = a .place ∙ sym (b .place) in

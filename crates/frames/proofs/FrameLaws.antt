@@ -2,7 +2,7 @@
 use borrow.Author.Tests.{eq-eqb, eqb-true, le-leb, leb-true, lt-leb, ne-eqb}
 use lib.Dec.{eqb, leb}
 use lib.ListN.{List·getD-append, drop, getD, length, length-drop, set, take}
-use lib.Seq.{drop-paste, getD-drop, length-take-le, paste, paste-suc, take-paste}
+use lib.Seq.{drop-paste, getD-drop, length-take-le, paste, paste-suc}
 use mathlib.Core.Bool.{Bool, true, false, cond, _&&_}
 use mathlib.Core.List.{List, _++_}
 use mathlib.Core.Path.{_≡_, refl, sym, ap, _∙_}
@@ -121,14 +121,7 @@ module _ (l : List ℕ) (from i : ℕ) where
       ∙ paste-suc l 0 (drop from l) i 0 (omega arith) n
       ∙ ap (moved l from) (sym (add-one i))
 
-  -- They stand at the front.
-  pub moved-front : from + i ≤ length l → take i (moved l from i) ≡ take i (drop from l)
-  moved-front h =
-      let z : i ≡ 0 + i = omega arith in
-      ap (λ (k : ℕ). take k (moved l from i)) z
-      ∙ take-paste l 0 (drop from l) i zero-le (simp length-drop (omega arith))
-
-  -- Behind them stands what stood there.
+  -- They stand at the front, and behind them what stood there.
   pub moved-over : from + i ≤ length l → moved l from i ≡ overlaid l 0 (take i (drop from l))
   unfolding overlaid
   moved-over h = let n : length (take i (drop from l)) ≡ i = length-take-le i (drop from l) (simp length-drop (omega arith)) in rw n refl

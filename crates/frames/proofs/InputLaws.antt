@@ -5,7 +5,7 @@ use lib.ListN.{drop, getD, length, length-drop, length-take}
 use lib.Seq.{getD-drop, getD-take}
 use mathlib.Core.Bool.{Bool, true, false, cond}
 use mathlib.Core.List.{List}
-use mathlib.Core.Path.{_≡_, refl, sym, subst, ap, _∙_}
+use mathlib.Core.Path.{_≡_, refl, ap, _∙_, sym, subst}
 use native.Mathlib.Omega.{arith}
 use Prim.Native.Nat.{ℕ, _+_, _-_, _≤_, _<_}
 use Rattle.frames.specs.declared.stream.Next.{Next}
@@ -44,14 +44,6 @@ module _ (s : List ℕ) where
       header true e f = let z : _≡_ {A = ℕ} 0 1 = cc in absurd (omega arith)
       header false e f = ltb-false (length s) 3 e
 
--- An answer that stands there, and is the one that `nextOf` gives.
-abbrev pub Next-is : Next → List ℕ → Type 0
-Next-is r s = Stands r s × (r ≡ nextOf s)
-
--- The one follows from the other.
-is-next : (r : Next) (s : List ℕ) → r ≡ nextOf s → Next-is r s
-is-next r s e = (subst (λ (n : Next). Stands n s) (sym e) (next-stands s), e)
-
 module _ (l : List ℕ) (from to : ℕ) (order : from ≤ to) (inside : to ≤ length l) where
   -- As many bytes are unread as lie between the places.
   pub unread-length : length (unread l from to) ≡ to - from
@@ -62,13 +54,18 @@ module _ (l : List ℕ) (from to : ℕ) (order : from ≤ to) (inside : to ≤ l
   unread-byte i h = getD-take (to - from) (drop from l) i 0 h ∙ getD-drop from l i 0
 
   -- A header that is cut off.
-  pub head-cut : to - from < 3 → Next-is Part (unread l from to)
+  pub head-cut : to - from < 3 → Part ≡ nextOf (unread l from to)
   unfolding nextOf
-  head-cut h = is-next Part (unread l from to) (simp (lt-ltb (length (unread l from to)) 3 (omega (arith, unread-length))))
+  head-cut h = simp (lt-ltb (length (unread l from to)) 3 (omega (arith, unread-length)))
 
   -- A whole frame has its bytes between the places.
   pub frame-inside : (size : ℕ) → Stands (Frame size) (unread l from to) → from + 3 + size ≤ to
   frame-inside size s = omega (arith, framed-head (unread l from to) (s .0) .1, s .1, unread-length)
+
+  -- So has the frame that stands next.
+  pub frame-ahead : (r : Next) → r ≡ nextOf (unread l from to) → (size : ℕ) → r ≡ Frame size → from + 3 + size ≤ to
+  frame-ahead r e size f =
+      frame-inside size (subst (λ (n : Next). Stands n (unread l from to)) (sym e ∙ f) (next-stands (unread l from to)))
 
   module _ (whole : 3 ≤ to - from) (r : Head) (answer : r ≡ headOf (getD l from 0) (getD l (from + 1) 0) (getD l (from + 2) 0)) where
     -- The header that was read is that of what is unread.
@@ -85,11 +82,11 @@ module _ (l : List ℕ) (from to : ℕ) (order : from ≤ to) (inside : to ≤ l
     unfolding nextOf
     head-next = rw (le-ltb (length (unread l from to)) 3 (omega (arith, unread-length)), head-here, unread-length) refl
 
-    pub stands-frame : (n : ℕ) → r ≡ Content n → n ≤ to - from - 3 → Next-is (Frame n) (unread l from to)
-    stands-frame n e h = is-next (Frame n) (unread l from to) (rw (head-next, e, le-leb n (to - from - 3) h) refl)
+    pub stands-frame : (n : ℕ) → r ≡ Content n → n ≤ to - from - 3 → Frame n ≡ nextOf (unread l from to)
+    stands-frame n e h = rw (head-next, e, le-leb n (to - from - 3) h)
 
-    pub stands-part : (n : ℕ) → r ≡ Content n → to - from - 3 < n → Next-is Part (unread l from to)
-    stands-part n e h = is-next Part (unread l from to) (rw (head-next, e, lt-leb n (to - from - 3) h) refl)
+    pub stands-part : (n : ℕ) → r ≡ Content n → to - from - 3 < n → Part ≡ nextOf (unread l from to)
+    stands-part n e h = rw (head-next, e, lt-leb n (to - from - 3) h)
 
-    pub stands-none : r ≡ Bad → Next-is none (unread l from to)
-    stands-none e = is-next none (unread l from to) (rw (head-next, e) refl)
+    pub stands-none : r ≡ Bad → none ≡ nextOf (unread l from to)
+    stands-none e = rw (head-next, e)

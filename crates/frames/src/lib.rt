@@ -49,7 +49,7 @@ pub fn frame_head(tag: u8, high: u8, low: u8) -> Head
 // Moves the bytes from `from` up to `to` to the front of the buffer, and tells how many they are.
 pub fn keep_rest(buf: &mut [u8], from: usize, to: usize) -> usize
     requires { ⌜ (from ≤ to) × (to ≤ length (now buf)) ⌝ }
-    ensures { λ r. ⌜ (r ≡ to - from) × (take r (now (buf .exit)) ≡ take r (drop from (now (buf .entry)))) × (now (buf .exit) ≡ overlaid (now (buf .entry)) 0 (take r (drop from (now (buf .entry))))) ⌝ }
+    ensures { λ r. ⌜ (r ≡ to - from) × (now (buf .exit) ≡ overlaid (now (buf .entry)) 0 (take r (drop from (now (buf .entry))))) ⌝ }
 {
     let count = to - from;
     let mut i = 0;

@@ -7,7 +7,7 @@ use libc::STDOUT_FILENO;
 ghost use lib.ListN.{length, take};
 ghost use mathlib.Core.Path.{_≡_};
 ghost use Prim.Native.Nat.{_+_, _≤_};
-ghost use Rattle.frames.specs.Buffers.{Ended, Filled, Inside, Stands, lineAt, nextOf, startPlaces, unread};
+ghost use Rattle.frames.specs.Buffers.{Ended, Filled, Inside, lineAt, nextOf, startPlaces, unread};
 ghost use Rattle.frames.specs.Coded.{LINE-ROOM};
 
 // The input read and not yet answered, from `from` up to `to`; the output that waits, up to `put`; and whether to go on.
@@ -40,7 +40,7 @@ pub fn start() -> Places
 // What stands between two places of the input.
 pub fn ahead(input: &[u8], from: usize, to: usize) -> Next
     requires { ⌜ (from ≤ to) × (to ≤ length (now input)) ⌝ }
-    ensures { λ r. ⌜ Stands r (unread (now (input .entry)) from to) × (r ≡ nextOf (unread (now (input .entry)) from to)) ⌝ }
+    ensures { λ r. ⌜ r ≡ nextOf (unread (now (input .entry)) from to) ⌝ }
 {
     if to - from < HEADER {
         return Next::Part;

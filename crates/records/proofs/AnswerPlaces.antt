@@ -12,7 +12,7 @@ use Prim.Native.Nat.{ℕ, suc, _+_, _-_, _*_, _/_, _≤_, _<_}
 use Rattle.records.proofs.AnswerLaws.{answer-bytes, answer-length, answer-run, answerHead, offsets-length}
 use Rattle.records.specs.Answer.{answerRecord, field, offsetFields}
 use Rattle.records.specs.AnswerForm.{AnswerStands, listedBelow, Stand}
-use Rattle.slots.proofs.Below.{count-reaches, count-rises, count-same}
+use Rattle.slots.proofs.Below.{count-reaches, count-rises}
 use Rattle.slots.specs.Limits.{AREA, IDS, LONGEST}
 use Rattle.timetable.specs.declared.Entry.{Entry}
 use Rattle.timetable.specs.Timetable.{entryOf, isListed}
@@ -129,30 +129,9 @@ module _ (before : List ℕ) (size : ℕ) (owners : List ℕ) (es : List Entry) 
       (omega arith)
   byte j (no p) (no q) (no r) (no s) = x .rest j (omega arith) ∙ sym (y .rest j (omega arith))
 
--- Owners and entries that are the same as far as an answer tells them have the same answer.
-answer-for : (before : List ℕ) (size : ℕ) (owners owners′ : List ℕ) (es es′ : List Entry) (w : ℕ) (a : List ℕ)
-    → ((k : ℕ) → k < size → getD owners k 0 ≡ getD owners′ k 0) → ((i : ℕ) → i < IDS → entryOf es i ≡ entryOf es′ i)
-    → AnswerStands before size owners′ es′ w a → AnswerStands before size owners es w a
-answer-for before size owners owners′ es es′ w a o e x = record {
-  length-field = x .length-field;
-  owners-field = x .owners-field;
-  owner = λ k h. x .owner k h ∙ sym (o k h);
-  offset-field = λ i k l. rw (listed i (omega arith), e i k) (x .offset-field i k (rw (e i k) at l));
-  bytes = rw (listed IDS (omega arith)) (x .bytes);
-  rest = x .rest;
-  same = x .same;
-}
-  where
-    listed : (n : ℕ) → n ≤ IDS → listedBelow es n ≡ listedBelow es′ n
-    listed n h = count-same _ _ n (λ i k. ap isListed (e i (omega arith)))
-
--- What stands so has one content and one number of bytes.
-pub answer-one : (before : List ℕ) (size : ℕ) (owners owners′ : List ℕ) (es es′ : List Entry) (w v : ℕ) (a b : List ℕ)
-    → ((k : ℕ) → k < size → getD owners k 0 ≡ getD owners′ k 0) → ((i : ℕ) → i < IDS → entryOf es i ≡ entryOf es′ i)
-    → AnswerStands before size owners es w a → AnswerStands before size owners′ es′ v b → (w ≡ v) × (a ≡ b)
-answer-one before size owners owners′ es es′ w v a b o e x y =
-    let z = answer-for before size owners owners′ es es′ v b o e y in (
-      omega (arith, x .bytes, z .bytes),
-      ext-getD 0 a b (x .same ∙ sym (z .same))
-          (λ j h. byte before size owners es w v a b x z j (decLt j 4) (decLt j 7) (decLt j (7 + size)) (decLt j w)),
-    )
+  -- What stands so has one content and one number of bytes.
+  pub answer-one : (w ≡ v) × (a ≡ b)
+  answer-one = (
+    omega (arith, x .bytes, y .bytes),
+    ext-getD 0 a b (x .same ∙ sym (y .same)) (λ j h. byte j (decLt j 4) (decLt j 7) (decLt j (7 + size)) (decLt j w)),
+  )

@@ -143,9 +143,3 @@ module _ (test : ℕ → Bool) where
       at (yes l) b e h ih = let k = ih l in (k .0, omega (arith, k .1), k .2, k .3)
       at (no l) true e h ih = (n, omega arith, omega arith, e)
       at (no l) false e h ih = absurd (omega arith)
-
--- Two tests that say the same of every number below n count the same.
-pub count-same : (f g : ℕ → Bool) (n : ℕ) → ((i : ℕ) → i < n → f i ≡ g i) → count n f ≡ count n g
-unfolding count
-count-same f g zero h = refl
-count-same f g (suc n) h = rw (count-same f g n (λ i k. h i (omega arith)), h n (omega arith))

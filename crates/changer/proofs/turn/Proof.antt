@@ -1,10 +1,9 @@
 -- `changer::turn` meets its contract: `ahead` tells what stands next, a whole frame lies between the places, and every step is its callee's.
 -- Assumes nothing.
 use borrow.Author.Needs.{needs}
-use mathlib.Core.Path.{refl, sym, subst, _∙_}
-use Rattle.frames.specs.declared.stream.Next.{Next}
-use Rattle.frames.specs.Buffers.{Stands, unread}
-use Rattle.frames.proofs.InputLaws.{frame-inside}
+use mathlib.Core.Path.{refl, sym, _∙_}
+use Rattle.frames.specs.Buffers.{unread}
+use Rattle.frames.proofs.InputLaws.{frame-ahead}
 use Rattle.changer.proofs.turn.Statement.{statement}
 use Rattle.changer.proofs.turn.Tie as tie
 
@@ -22,8 +21,8 @@ answered-requires c κs =
     let a = start .args in
     let inside = start .pre in (
       inside,
-      frame-inside (a .input .now) (a .s .places .from) (a .s .places .to) (inside .unread) (inside .read) (size .size .given .0 .0)
-          (subst (λ (n : Next). Stands n (unread (a .input .now) (a .s .places .from) (a .s .places .to))) (size .size .given .1) (next .ahead .ensures .0)),
+      frame-ahead (a .input .now) (a .s .places .from) (a .s .places .to) (inside .unread) (inside .read) (next .ahead .result) (next .ahead .ensures)
+          (size .size .given .0 .0) (size .size .given .1),
     )
 
 enum-told : tie.Need-enum-told
@@ -54,7 +53,7 @@ returns : tie.Need-returns
 returns c =
     let done = c .before .before in
     let size = done .before .before .before .before in
-    (search needs, rw (sym (size .before .before .ahead .ensures .1) ∙ size .size .given .1) (done .answered .ensures .1, refl))
+    (search needs, rw (sym (size .before .before .ahead .ensures) ∙ size .size .given .1) (done .answered .ensures .1, refl))
 
 same-length-3 : tie.Need-same-length-3
 same-length-3 c = search needs
@@ -67,7 +66,7 @@ returns-2 c =
     let more = c .before .before .before .before .before in
     let told = more .before .before .before in (
       rw (c .moved .ensures .1) (more .filled .ensures .0),
-      rw (sym (told .before .before .ahead .ensures .1) ∙ told .enum-told .given .1) (c .moved .ensures .0, rw (c .moved .ensures .1) (more .filled .ensures .1)),
+      rw (sym (told .before .before .ahead .ensures) ∙ told .enum-told .given .1) (c .moved .ensures .0, rw (c .moved .ensures .1) (more .filled .ensures .1)),
     )
 
 same-length-5 : tie.Need-same-length-5
@@ -82,7 +81,7 @@ returns-3 c =
     let told = over .before .before in
     let inside = told .before .before .before .before .before .before .before .pre in (
       rw (c .moved2 .ensures .1) (search needs),
-      rw (sym (told .before .before .ahead .ensures .1) ∙ told .enum-told2 .given .1) (c .moved2 .ensures .0, rw (c .moved2 .ensures .1) (over .ended .ensures .1), refl),
+      rw (sym (told .before .before .ahead .ensures) ∙ told .enum-told2 .given .1) (c .moved2 .ensures .0, rw (c .moved2 .ensures .1) (over .ended .ensures .1), refl),
     )
 
 pub turn-spec : {M : Type 1} → statement M

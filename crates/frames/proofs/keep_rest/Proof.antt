@@ -6,7 +6,7 @@ use mathlib.Core.List.{List}
 use mathlib.Core.Path.{_≡_, refl, ap, _∙_}
 use native.Mathlib.Omega.{arith}
 use Prim.Native.Nat.{ℕ, _+_, _-_, _≤_, zero-le}
-use Rattle.frames.proofs.FrameLaws.{moved, moved-front, moved-more, moved-over}
+use Rattle.frames.proofs.FrameLaws.{moved, moved-more, moved-over}
 use Rattle.frames.proofs.keep_rest.Statement.{statement}
 use Rattle.frames.proofs.keep_rest.Tie as tie
 
@@ -55,7 +55,6 @@ returns c =
     let q = c .before .loop in
     let e : q .i ≡ a .to - a .from = omega arith in (
       refl,
-      rw (q .inv .1, e) (moved-front (a .buf .now) (a .from) (a .to - a .from) (omega arith)),
       rw (q .inv .1, e) (moved-over (a .buf .now) (a .from) (a .to - a .from) (omega arith)),
     )
 

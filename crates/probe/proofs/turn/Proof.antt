@@ -1,10 +1,8 @@
 -- `probe::turn` keeps the places inside their buffers: a whole frame lies between them, and every other step is its callee's.
 -- Assumes nothing.
 use borrow.Author.Needs.{needs}
-use mathlib.Core.Path.{subst}
-use Rattle.frames.proofs.InputLaws.{frame-inside}
-use Rattle.frames.specs.Buffers.{Stands, unread}
-use Rattle.frames.specs.declared.stream.Next.{Next}
+use Rattle.frames.proofs.InputLaws.{frame-ahead}
+use Rattle.frames.specs.Buffers.{unread}
 use Rattle.probe.proofs.turn.Statement.{statement}
 use Rattle.probe.proofs.turn.Tie as tie
 
@@ -22,8 +20,8 @@ answered-requires c κs =
     let a = start .args in
     let inside = start .pre in (
       inside,
-      frame-inside (a .input .now) (a .s .from) (a .s .to) (inside .unread) (inside .read) (size .size .given .0 .0)
-          (subst (λ (n : Next). Stands n (unread (a .input .now) (a .s .from) (a .s .to))) (size .size .given .1) (next .ahead .ensures .0)),
+      frame-ahead (a .input .now) (a .s .from) (a .s .to) (inside .unread) (inside .read) (next .ahead .result) (next .ahead .ensures)
+          (size .size .given .0 .0) (size .size .given .1),
     )
 
 enum-told : tie.Need-enum-told

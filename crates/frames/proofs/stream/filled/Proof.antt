@@ -35,7 +35,7 @@ returns c =
     let a = start .args in (
       search needs,
       filled-cut (a .s) (a .input .now) (rest .keep-rest .last .0) (read .read-behind .last .0) (a .out .now) (rest .keep-rest .result) (read .read-behind .result) (flush .flush .result)
-          (rest .keep-rest .ensures .0) (rest .keep-rest .ensures .1) (read .read-behind .ensures .1) (read .read-behind .ensures .0 .0) (flush .flush .ensures)
+          (start .pre) (rest .keep-rest .ensures .0) (rest .keep-rest .ensures .1) (read .read-behind .ensures .1) (read .read-behind .ensures .0 .0) (flush .flush .ensures)
           (test .before .if1 .taken) (test .if2 .taken) (ended .ended .last .1 .0) (ended .ended .result) (ended .ended .ensures .1),
     )
 
@@ -54,7 +54,7 @@ returns-2 c =
     let a = start .args in (
       search needs,
       filled-on (a .s) (a .input .now) (rest .keep-rest .last .0) (read .read-behind .last .0) (a .out .now) (rest .keep-rest .result) (read .read-behind .result) (flush .flush .result)
-          (rest .keep-rest .ensures .0) (rest .keep-rest .ensures .1) (read .read-behind .ensures .1) (read .read-behind .ensures .0 .0) (flush .flush .ensures)
+          (start .pre) (rest .keep-rest .ensures .0) (rest .keep-rest .ensures .1) (read .read-behind .ensures .1) (read .read-behind .ensures .0 .0) (flush .flush .ensures)
           (⊎-elim (λ w. more-read (rest .keep-rest .result) (read .read-behind .result) (w .1 .left)) (λ w. none-left (rest .keep-rest .result) (read .read-behind .result) (w .left)) (c .if1 .came)),
     )
 
