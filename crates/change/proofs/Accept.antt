@@ -5,7 +5,6 @@ use mathlib.Core.List.{List}
 use mathlib.Core.Option.{some}
 use mathlib.Core.Path.{_≡_, refl, sym, ap, ap₂, _∙_, subst}
 use native.Mathlib.Decide.{ℕ-discrete, decLt}
-use native.Mathlib.Nat.{zero-add}
 use native.Mathlib.Omega.{arith}
 use Prim.Native.Nat.{ℕ, _+_, _-_, _*_, _≤_, _<_}
 use Rattle.change.proofs.Start.{start-fit, start-listed}
@@ -26,7 +25,7 @@ use Rattle.timetable.specs.declared.Entry.{Entry}
 use Rattle.timetable.specs.declared.Timetable.{Timetable}
 use Rattle.timetable.specs.Timetable.{noEntry, entryOf, isListed, lists, weight, withOffset, withShortfall, startShortfall, transitionShortfall}
 use Rattle.transition.proofs.Plans.{Fit}
-use Rattle.transition.proofs.Reach.{reach-fit}
+use Rattle.transition.proofs.Reach.{fit-reached}
 use Rattle.transition.proofs.Search.{PassedFirst}
 use Rattle.transition.proofs.Walk.{walk-agree, owners-stay, walked}
 use Rattle.transition.specs.declared.Plan.{Plan}
@@ -69,7 +68,7 @@ module _ (t : Timetable) (r : Request) (q : RequestRange r) (later : t .base .0 
       at (no e) = let w = before n (omega arith) in (w .0, w .1)
 
   fit-at : (n : ℕ) → n ≤ k → (x : Plan) → reach plan n ≡ some x → Fit n x
-  fit-at n l x e = subst (λ (m : ℕ). Fit m x) (zero-add n) (reach-fit n 0 plan x fit (omega (arith, small)) e)
+  fit-at n l x e = fit-reached plan fit n (omega (arith, small)) x e
 
   at-k : Fit k p
   unfolding plan

@@ -7,7 +7,6 @@ use mathlib.Core.Logic.{inl, inr}
 use mathlib.Core.Option.{none, some}
 use mathlib.Core.Path.{_≡_, refl, sym, ap, _∙_, subst}
 use native.Mathlib.Decide.{ℕ-discrete}
-use native.Mathlib.Nat.{zero-add}
 use native.Mathlib.Omega.{arith}
 use Prim.Native.Nat.{ℕ, suc, _-_, _≤_, _<_}
 use Rattle.change.proofs.Answers.{Gets, Passes, accepted, acceptedAs, gets, no-length, no-slot, refused}
@@ -33,7 +32,7 @@ use Rattle.timetable.specs.declared.Entry.{Entry}
 use Rattle.timetable.specs.declared.Timetable.{Timetable}
 use Rattle.timetable.specs.Timetable.{entryOf, isListed, withOffset}
 use Rattle.transition.proofs.Plans.{Fit}
-use Rattle.transition.proofs.Reach.{reach-fit}
+use Rattle.transition.proofs.Reach.{fit-reached}
 use Rattle.transition.proofs.RuleThreeLaws.{longer-breaks, reach-rule, reach-walked}
 use Rattle.transition.proofs.Search.{PassedFirst}
 use Rattle.transition.proofs.Walk.{owners-stay, walked}
@@ -78,7 +77,7 @@ module _ (t : Timetable) (q : Request) (pass : Passes t q) where
 
   module _ (n : ℕ) (small : n ≤ LONGEST) (x : Plan) (here : reach plan n ≡ some x) where
     fit-here : Fit n x
-    fit-here = subst (λ (m : ℕ). Fit m x) (zero-add n) (reach-fit n 0 plan x fit (omega arith) here)
+    fit-here = fit-reached plan fit n small x here
 
     -- The entries at a length on the way.
     on-the-way : (m : ℕ) → m ≤ n → (y : Plan) → reach plan m ≡ some y → y .entries ≡ walkedTo (plan .entries) (x .owners) m
@@ -90,7 +89,7 @@ module _ (t : Timetable) (q : Request) (pass : Passes t q) where
     passed-over : (k : ℕ) → k ≤ suc n → PassedFirst k 0 plan → (m : ℕ) → m < k → NoPlacement (walkedTo (plan .entries) (x .owners) m)
     passed-over k l b m h =
         let w = b m h in
-        let f = reach-fit m 0 plan (w .0) fit (omega arith) (w .1) in
+        let f = fit-reached plan fit m (omega arith) (w .0) (w .1) in
         subst NoPlacement (on-the-way m (omega arith) (w .0) (w .1)) (placement-none (w .0 .entries) (f .ranged) (w .2))
 
     module _ (ps : List Place) (rule4 : placement (x .entries) ≡ some ps) where

@@ -40,7 +40,7 @@ pub record AtRequest (t : Timetable) (q : Request) (es : List Entry) : Type 0 wh
   pub listed : (i : ℕ) → i < IDS → 0 < askOf (q .asks) i .period → Enters t q i (entryOf es i)
   pub blank : (i : ℕ) → i < IDS → askOf (q .asks) i .period ≡ 0 → entryOf es i ≡ noEntry
 
--- A timetable by rules 1 to 4, from the entries at the request slot.
+-- A timetable by rules 2 to 4, from the entries that rule 1 gives.
 pub record ByRules (q : Request) (start : List Entry) (t : Timetable) : Type 0 where
   -- the asked slot, and the base: request slot + length
   pub slot : t .request ≡ q .slot

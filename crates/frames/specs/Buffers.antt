@@ -60,7 +60,7 @@ abbrev pub Waits : Bool → List ℕ → List ℕ → ℕ → Type 0
 Waits true before after put = Puts before 0 badFrame after put
 Waits false before after put = (put ≡ 0) × (after ≡ before)
 
--- What was unread stands at the front of the input, and what was read once more behind it. If that is nothing, no more follows, and a part of a frame was cut off.
+-- What was unread stands at the front of the input, and what was read once more behind it. If that is nothing, no more follows, and a part of a frame that was left is cut off.
 pub record Filled (s : Places) (input out input-after out-after : List ℕ) (r : Places) : Type 0 where
   pub from : r .from ≡ 0
   pub to : s .to - s .from ≤ r .to

@@ -24,7 +24,7 @@ use Rattle.slots.specs.Limits.{LONGEST}
 use Rattle.timetable.specs.declared.Timetable.{Timetable}
 use Rattle.timetable.specs.Timetable.{entryOf}
 use Rattle.transition.proofs.Plans.{Fit}
-use Rattle.transition.proofs.Reach.{reach-fit, reach-past}
+use Rattle.transition.proofs.Reach.{fit-reached, reach-past}
 use Rattle.transition.proofs.Search.{PassedFirst}
 use Rattle.transition.proofs.RuleThreeLaws.{goes-kept, longer-breaks}
 use Rattle.transition.proofs.Walk.{step-before, reach-before}
@@ -40,22 +40,15 @@ same-plan o p q a b = cc
 not-both : (o : Option Plan) (p : Plan) → o ≡ some p → o ≡ none → ⊥
 not-both o p a b = let z : _≡_ {A = ℕ} 0 1 = cc in omega arith
 
--- Rule 4 does not both fail and succeed.
-not-placed : (o : Option (List Place)) (ps : List Place) → o ≡ some ps → o ≡ none → ⊥
-not-placed o ps a b = let z : _≡_ {A = ℕ} 0 1 = cc in omega arith
-
 module _ (plan : Plan) (fit : Fit 0 plan) where
-  fit-at : (n : ℕ) → n ≤ LONGEST → (p : Plan) → reach plan n ≡ some p → Fit n p
-  fit-at n l p e = subst (λ (m : ℕ). Fit m p) (zero-add n) (reach-fit n 0 plan p fit (omega arith) e)
-
   -- A length where rule 4 fails is passed over, and it fails where a length is.
   passed-over : (n : ℕ) → n ≤ LONGEST → (p : Plan) → reach plan n ≡ some p → placement (p .entries) ≡ none → PassedOver plan n
-  passed-over n l p e z = (p, e, placement-none (p .entries) (fit-at n l p e .ranged) z)
+  passed-over n l p e z = (p, e, placement-none (p .entries) (fit-reached plan fit n l p e .ranged) z)
 
   placed-not-passed : (n : ℕ) → n ≤ LONGEST → (p : Plan) → reach plan n ≡ some p → (ps : List Place) → placement (p .entries) ≡ some ps
       → PassedOver plan n → ⊥
   placed-not-passed n l p e ps z w =
-      let f = fit-at n l p e in
+      let f = fit-reached plan fit n l p e in
       let q : w .0 ≡ p = same-plan (reach plan n) (w .0) p (w .1) e in
       let c = placement-some (p .entries) (f .ranged) (f .entries) ps z in
       w .2 (λ i. entryOf (settle (p .entries) ps) i .offset) (subst (λ (x : Plan). CyclicPlacement (x .entries) (λ i. entryOf (settle (p .entries) ps) i .offset)) (sym q) c)
@@ -63,7 +56,7 @@ module _ (plan : Plan) (fit : Fit 0 plan) where
   has-placement : (n : ℕ) → n ≤ LONGEST → (p : Plan) → reach plan n ≡ some p → (ps : List Place) → placement (p .entries) ≡ some ps
       → HasPlacement plan n
   has-placement n l p e ps z =
-      let f = fit-at n l p e in
+      let f = fit-reached plan fit n l p e in
       (p, e, ((λ i. entryOf (settle (p .entries) ps) i .offset), placement-some (p .entries) (f .ranged) (f .entries) ps z))
 
   -- A length with a placement is not one where rule 4 fails.
@@ -75,7 +68,7 @@ module _ (plan : Plan) (fit : Fit 0 plan) where
 
   -- Past a slot that the urgent rule cannot give, nothing can be reached.
   cannot-reach : (k n : ℕ) → k < n → k ≤ LONGEST → (p : Plan) → reach plan k ≡ some p → placement (p .entries) ≡ none → longer k p ≡ none → CannotReach plan n
-  cannot-reach k n l m p e z h = (k, l, p, e, longer-breaks k p (fit-at k m p e) z h)
+  cannot-reach k n l m p e z h = (k, l, p, e, longer-breaks k p (fit-reached plan fit k m p e) z h)
 
   -- A length that is reached can be reached: each slot before it was given with every bound kept.
   reached-not-cannot : (n : ℕ) → n ≤ LONGEST → (p : Plan) → reach plan n ≡ some p → CannotReach plan n → ⊥
@@ -83,7 +76,7 @@ module _ (plan : Plan) (fit : Fit 0 plan) where
       let k : ℕ = c .0 in
       let x = reach-before plan fit (suc k) (n - suc k) p (ap (reach plan) (omega (arith, c .1)) ∙ e) in
       let w = step-before plan fit k (x .0) (x .1) in
-      let f = fit-at k (omega (arith, c .1)) (w .0) (w .1) in
+      let f = fit-reached plan fit k (omega (arith, c .1)) (w .0) (w .1) in
       let q : c .2 ≡ w .0 = same-plan (reach plan k) (c .2) (w .0) (c .3) (w .1) in
       goes-kept (w .0 .entries) (f .ranged) (w .2 .u) (w .2 .goes) (subst (λ (y : Plan). AnyoneBreaks (y .entries)) q (c .4))
 

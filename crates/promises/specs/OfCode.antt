@@ -42,8 +42,8 @@ pub data Serves : History → Type 0 where
   refuses : (h : History) → Serves h → (s area : List ℕ) (r : Outcome) (out : List ℕ) → Meets (present h) s area r out → r .number ≢ ACCEPTED
       → Serves h
 
--- Demand 1: a damaged request, an unsound timetable or too small an area is refused by document 01's number and place, and so is nothing else; no refusal
--- touches a byte of the area or the timetable; an acceptance is sound.
+-- Demand 1: whenever document 01 gives a refusal before the search, the code gives its number and its place, and every number but 0 and 9 is such a refusal;
+-- no refusal touches a byte of the area or the timetable; an acceptance is sound.
 pub record DemandOne : Type 0 where
   pub given : (t : Timetable) (s area : List ℕ) (r : Outcome) (out : List ℕ) → Meets t s area r out
       → (read : ReadRequest) → RequestRead s read → (x : Refusal) → Refuses t read (length area) (some x)

@@ -57,6 +57,7 @@ pub record SoundStays : Type 0 where
 abbrev pub WindowsKept : History → Type 0
 WindowsKept h = (i a n : ℕ) → Listed (runOf h) i a n → Since (runOf h) i a n → KeepsBound (runOf h) i a n
 
+-- So after any requests from an empty controller.
 abbrev pub Windows : Type 0
 Windows = (sent : List Sent) → WindowsKept (historyOf sent)
 
@@ -66,6 +67,7 @@ abbrev pub ServesOne : History → Type 0
 ServesOne h =
     (x i j : ℕ) → i < IDS → j < IDS → serves (inForce h x) (coreSlot x) i ≡ true → serves (inForce h x) (coreSlot x) j ≡ true → i ≡ j
 
+-- So after any requests from an empty controller.
 abbrev pub OneOwner : Type 0
 OneOwner = (sent : List Sent) → ServesOne (historyOf sent)
 
@@ -89,6 +91,7 @@ pub record ShortestOf (t : Timetable) (q : Request) (r : Outcome) : Type 0 where
       ↔ ((n ≤ q .limit) × HasPlacement (startPlan t q) n × ((m : ℕ) → m < n → PassedOver (startPlan t q) m))
   pub refused : (r .number ≡ NO-SCHEDULE) ↔ ((n : ℕ) → n ≤ q .limit → PassedOver (startPlan t q) n ⊎ CannotReach (startPlan t q) n)
 
+-- So for every request that passes.
 abbrev pub Shortest : Type 0
 Shortest = (t : Timetable) (s area : List ℕ) → Passes t s (length area) → ShortestOf t (readRequest s .request) (outcome t s area)
 
@@ -132,6 +135,7 @@ pub record ShortfallMeans (h : History) : Type 0 where
       → (a : ℕ) × (n : ℕ) × (a + n ≡ x) × Since (runOf h) i a n × Listed (runOf h) i a n
       × (entitlement (runOf h) i a n ≡ WHOLE * supply (runOf h) i a n + shortfallAt (present h) i (coreSlot x))
 
+-- So after any requests from an empty controller.
 abbrev pub KeptShortfall : Type 0
 KeptShortfall = (sent : List Sent) → ShortfallMeans (historyOf sent)
 
@@ -150,6 +154,7 @@ pub record QueriesTell (h : History) : Type 0 where
         slices = sliceCount (supply (runOf h) i (present h .base .0) (x - present h .base .0));
       }
 
+-- So after any requests from an empty controller; and of any timetable, sound or not, each answer and refusal as it is given and only so.
 pub record Queries : Type 0 where
   pub tell : (sent : List Sent) → QueriesTell (historyOf sent)
   pub owner : (t : Timetable) (x : CoreSlot) → OwnerGiven t x (ownerQuery t x)

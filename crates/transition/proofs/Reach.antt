@@ -4,7 +4,7 @@ use mathlib.Core.Bool.{Bool, true, false, _&&_}
 use mathlib.Core.List.{List}
 use mathlib.Core.Option.{Option, none, some}
 use mathlib.Core.Path.{_≡_, refl, sym, ap, ap₂, _∙_, subst}
-use native.Mathlib.Nat.{add-zero}
+use native.Mathlib.Nat.{add-zero, zero-add}
 use native.Mathlib.Decide.{ℕ-discrete}
 use native.Mathlib.Omega.{arith}
 use Prim.Native.Nat.{ℕ, zero, suc, _+_, _≤_, _<_}
@@ -61,6 +61,10 @@ reach-fit (suc k) n plan p f l e = at (longer n plan) (longer-told n plan) e (λ
         → ((q : Plan) → Fit (suc n) q → reachFrom k (suc n) q ≡ some p → Fit (suc n + k) p) → Fit (n + suc k) p
     at none t i ih = absurd (let z : _≡_ {A = ℕ} 0 1 = cc in omega arith)
     at (some q) t i ih = subst (λ (x : ℕ). Fit x p) (omega arith) (ih q (step-fit n plan q (omega arith) f t) i)
+
+-- So is what a length reaches from the plan of length 0.
+pub fit-reached : (plan : Plan) → Fit 0 plan → (n : ℕ) → n ≤ LONGEST → (p : Plan) → reach plan n ≡ some p → Fit n p
+fit-reached plan f n l p e = subst (λ (m : ℕ). Fit m p) (zero-add n) (reach-fit n 0 plan p f (omega arith) e)
 
 -- ---- the lengths searched
 
