@@ -12,8 +12,7 @@ use Rattle.change.specs.declared.Outcome.{Outcome}
 use Rattle.change.specs.declared.OwnerAnswer.{OwnerAnswer}
 use Rattle.change.specs.declared.StandingAnswer.{StandingAnswer}
 use Rattle.change.specs.Queries.{ownerQuery, standingQuery}
-use Rattle.records.specs.Numbers.{ACCEPTED, NOT-SOUND}
-use Rattle.records.specs.Request.{refusal}
+use Rattle.numbers.specs.Numbers.{ACCEPTED, NOT-SOUND, refusal}
 use Rattle.slots.specs.Clocks.{coreSlot}
 use Rattle.timetable.specs.declared.Timetable.{Timetable}
 use Rattle.timetable.specs.Timetable.{emptyTimetable}

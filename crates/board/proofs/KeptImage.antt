@@ -16,7 +16,7 @@ use Rattle.change.proofs.Histories.{sent-accepted, sent-refused}
 use Rattle.change.proofs.Start.{start-fit}
 use Rattle.change.specs.Change.{Answer, answer, startPlan}
 use Rattle.change.specs.Controller.{Sent, historyOf}
-use Rattle.records.specs.Numbers.{ACCEPTED}
+use Rattle.numbers.specs.Numbers.{ACCEPTED}
 use Rattle.records.specs.Request.{readRequest}
 use Rattle.slots.specs.Limits.{IDS, LONGEST}
 use Rattle.timetable.proofs.Listing.{empty-sound}

@@ -10,8 +10,8 @@ use Rattle.change.specs.Controller.{Sent}
 use Rattle.change.specs.declared.OwnerAnswer.{OwnerAnswer}
 use Rattle.change.specs.declared.StandingAnswer.{StandingAnswer}
 use Rattle.change.specs.Queries.{ownerQuery, refuseOwner, refuseStanding, standingQuery}
-use Rattle.records.specs.Numbers.{ACCEPTED, NOT-SOUND}
-use Rattle.records.specs.Request.{numberAt, refusal}
+use Rattle.numbers.specs.Numbers.{ACCEPTED, NOT-SOUND, refusal}
+use Rattle.records.specs.Request.{numberAt}
 use Rattle.records.specs.Written.{numberBytes}
 use Rattle.slots.specs.Clocks.{coreSlot}
 use Rattle.slots.specs.Limits.{IDS, LONGEST}

@@ -1,7 +1,7 @@
 // The library as a C program on the board calls it. A timetable is an image of 273 bytes, and each function returns document 01's number.
 ghost use mathlib.Core.Path.{_≡_};
 ghost use Rattle.board.specs.Image.{Changed, OwnerTold, StandingTold, emptyImage, emptyNumber, imageOwner, imageStanding};
-use records::Refusal;
+use numbers::Refusal;
 use slots::CoreSlot;
 use timetable::Timetable;
 

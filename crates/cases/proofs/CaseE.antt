@@ -15,10 +15,10 @@ use Rattle.records.specs.declared.LimitField.{LimitField}
 use Rattle.records.specs.declared.LimitField.the-variants.{Value as limit-value, Refused as limit-refused}
 use Rattle.records.specs.declared.Reading.the-variants.{Whole}
 use Rattle.records.specs.declared.ReadRequest.{ReadRequest}
-use Rattle.records.specs.declared.Refusal.{Refusal}
+use Rattle.numbers.specs.declared.Refusal.{Refusal}
 use Rattle.records.specs.declared.Request.{Request}
-use Rattle.records.specs.Numbers.{OUT-OF-RANGE}
-use Rattle.records.specs.Request.{refusal, noAsks, limitField, readListing, refusedRequest, withListing, readRequest}
+use Rattle.numbers.specs.Numbers.{OUT-OF-RANGE, refusal}
+use Rattle.records.specs.Request.{noAsks, limitField, readListing, refusedRequest, withListing, readRequest}
 use Rattle.slots.specs.Clocks.{coreSlot}
 use Rattle.timetable.specs.Timetable.{noEntry}
 use Rattle.transition.specs.declared.Plan.{Plan}

@@ -13,9 +13,9 @@ use Rattle.change.specs.Stages.{startEntries, refusalBefore}
 use Rattle.placement.specs.Placement.{Place, placement}
 use Rattle.records.proofs.ReadLaws.{RequestRange, read-in-range, refused-in-range}
 use Rattle.records.specs.Answer.{answerRecord}
-use Rattle.records.specs.declared.Refusal.{Refusal}
+use Rattle.numbers.specs.declared.Refusal.{Refusal}
 use Rattle.records.specs.declared.Request.{Request}
-use Rattle.records.specs.Numbers.{ACCEPTED, NO-SCHEDULE}
+use Rattle.numbers.specs.Numbers.{ACCEPTED, NO-SCHEDULE}
 use Rattle.records.specs.Request.{readRequest}
 use Rattle.slots.specs.Limits.{IDS}
 use Rattle.timetable.proofs.Run.{Continues}

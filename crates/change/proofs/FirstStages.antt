@@ -11,9 +11,8 @@ use Rattle.change.specs.Stages.{startEntries, stageOverfull, stageEarly,
 use Rattle.records.specs.declared.Reading.{Reading}
 use Rattle.records.specs.declared.Reading.the-variants.{Whole, Refused}
 use Rattle.records.specs.declared.ReadRequest.{ReadRequest}
-use Rattle.records.specs.declared.Refusal.{Refusal}
-use Rattle.records.specs.Numbers.{NOT-SOUND, SMALL-AREA, TOO-EARLY}
-use Rattle.records.specs.Request.{refusal}
+use Rattle.numbers.specs.declared.Refusal.{Refusal}
+use Rattle.numbers.specs.Numbers.{NOT-SOUND, SMALL-AREA, TOO-EARLY, refusal}
 use Rattle.slots.specs.Limits.{AREA}
 use Rattle.timetable.specs.declared.Timetable.{Timetable}
 use Rattle.timetable.specs.Sound.{isSound}

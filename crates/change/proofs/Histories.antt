@@ -9,7 +9,7 @@ use mathlib.Core.Path.{_≡_, refl}
 use Rattle.change.proofs.Answers.{accepted-continues}
 use Rattle.change.specs.Change.{answer}
 use Rattle.change.specs.Controller.{Sent, send, historyOf}
-use Rattle.records.specs.Numbers.{ACCEPTED}
+use Rattle.numbers.specs.Numbers.{ACCEPTED}
 use Rattle.timetable.proofs.Run.{Valid}
 use Rattle.timetable.specs.History.{History, present}
 

@@ -25,9 +25,9 @@ use Rattle.records.proofs.ReadLaws.{RequestRange, read-in-range}
 use Rattle.records.proofs.ReadSteps.{request-is}
 use Rattle.records.specs.AnswerForm.{AnswerStands}
 use Rattle.records.specs.declared.ReadRequest.{ReadRequest}
-use Rattle.records.specs.declared.Refusal.{Refusal}
+use Rattle.numbers.specs.declared.Refusal.{Refusal}
 use Rattle.records.specs.declared.Request.{Request}
-use Rattle.records.specs.Numbers.{NO-SCHEDULE}
+use Rattle.numbers.specs.Numbers.{NO-SCHEDULE}
 use Rattle.records.specs.Reads.{RequestRead}
 use Rattle.records.specs.Request.{askOf, readRequest}
 use Rattle.slots.specs.Limits.{IDS}

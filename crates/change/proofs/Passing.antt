@@ -15,7 +15,7 @@ use Rattle.records.proofs.ReadLaws.{RequestRange, read-in-range}
 use Rattle.records.specs.declared.Reading.{Reading}
 use Rattle.records.specs.declared.Reading.the-variants.{Whole, Refused}
 use Rattle.records.specs.declared.ReadRequest.{ReadRequest}
-use Rattle.records.specs.declared.Refusal.{Refusal}
+use Rattle.numbers.specs.declared.Refusal.{Refusal}
 use Rattle.records.specs.declared.Request.{Request}
 use Rattle.records.specs.Request.{readRequest}
 use Rattle.slots.specs.Limits.{AREA}

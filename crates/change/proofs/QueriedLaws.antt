@@ -11,7 +11,7 @@ use Rattle.change.specs.declared.StandingAnswer.{StandingAnswer}
 use Rattle.change.specs.Queried as Queried
 use Rattle.change.specs.Queried.{OwnerGiven, StandingGiven, ownerAnswer}
 use Rattle.change.specs.Queries.{ownerQuery, standing, standingQuery}
-use Rattle.records.specs.Numbers.{ACCEPTED}
+use Rattle.numbers.specs.Numbers.{ACCEPTED}
 use Rattle.slots.proofs.Below.{first-none, first-some, none-first, some-first}
 use Rattle.slots.specs.Below.{first}
 use Rattle.slots.specs.declared.CoreSlot.{CoreSlot}

@@ -4,7 +4,7 @@ use mathlib.Core.Bool.{true, false}
 use mathlib.Core.Path.{_≡_}
 use Prim.Native.Nat.{ℕ, _≤_, _<_}
 use Rattle.change.specs.Queries.{refuseOwner, ownerQuery, refuseStanding, standing, standingQuery}
-use Rattle.records.specs.Numbers.{ACCEPTED, NOT-SOUND, OUT-OF-RANGE, TOO-EARLY, NOT-LISTED}
+use Rattle.numbers.specs.Numbers.{ACCEPTED, NOT-SOUND, OUT-OF-RANGE, TOO-EARLY, NOT-LISTED}
 use Rattle.slots.specs.declared.CoreSlot.{CoreSlot}
 use Rattle.slots.specs.Limits.{IDS, LAST-SLOT}
 use Rattle.timetable.specs.declared.Timetable.{Timetable}

@@ -12,9 +12,8 @@ use Rattle.change.specs.Stages.{startEntries, weightSum, stageBehind, st
 use Rattle.records.specs.declared.Reading.{Reading}
 use Rattle.records.specs.declared.Reading.the-variants.{Whole, Refused}
 use Rattle.records.specs.declared.ReadRequest.{ReadRequest}
-use Rattle.records.specs.declared.Refusal.{Refusal}
-use Rattle.records.specs.Numbers.{OVERFULL, BEHIND}
-use Rattle.records.specs.Request.{refusal}
+use Rattle.numbers.specs.declared.Refusal.{Refusal}
+use Rattle.numbers.specs.Numbers.{OVERFULL, BEHIND, refusal}
 use Rattle.slots.proofs.Below.{and-both, first-none, first-some, none-first, some-first, true-false}
 use Rattle.slots.specs.Below.{first}
 use Rattle.slots.specs.Limits.{IDS, WHOLE, AREA}

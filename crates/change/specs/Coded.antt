@@ -13,10 +13,10 @@ use Rattle.records.specs.declared.Ask.{Ask}
 use Rattle.records.specs.declared.Reading.{Reading}
 use Rattle.records.specs.declared.Reading.the-variants.{Whole, Refused}
 use Rattle.records.specs.declared.ReadRequest.{ReadRequest}
-use Rattle.records.specs.declared.Refusal.{Refusal}
+use Rattle.numbers.specs.declared.Refusal.{Refusal}
 use Rattle.records.specs.declared.Request.{Request}
-use Rattle.records.specs.Request.{isAsked, refusal}
-use Rattle.records.specs.Numbers.{ACCEPTED, NOT-SOUND, SMALL-AREA, TOO-EARLY}
+use Rattle.records.specs.Request.{isAsked}
+use Rattle.numbers.specs.Numbers.{refusal, ACCEPTED, NOT-SOUND, SMALL-AREA, TOO-EARLY}
 use Rattle.slots.specs.Limits.{LAST-SLOT, LONGEST, AREA}
 use Rattle.slots.specs.Shortfall.{keeps}
 use Rattle.transition.specs.declared.Ending.the-variants.{Found}

@@ -4,7 +4,7 @@ use mathlib.Core.Path.{_≡_}
 use Prim.Native.Nat.{ℕ, _≤_, _<_}
 use Rattle.change.specs.declared.OwnerAnswer.{OwnerAnswer}
 use Rattle.change.specs.declared.StandingAnswer.{StandingAnswer}
-use Rattle.records.specs.Numbers.{ACCEPTED, NOT-SOUND, OUT-OF-RANGE, TOO-EARLY, NOT-LISTED}
+use Rattle.numbers.specs.Numbers.{ACCEPTED, NOT-SOUND, OUT-OF-RANGE, TOO-EARLY, NOT-LISTED}
 use Rattle.slots.specs.Clocks.{sliceCount}
 use Rattle.slots.specs.declared.CoreSlot.{CoreSlot}
 use Rattle.slots.specs.declared.SliceCount.{SliceCount}

@@ -4,7 +4,7 @@ use mathlib.Core.Bool.{cond, not}
 use Prim.Native.Nat.{ℕ}
 use Rattle.change.specs.declared.OwnerAnswer.{OwnerAnswer}
 use Rattle.change.specs.declared.StandingAnswer.{StandingAnswer}
-use Rattle.records.specs.Numbers.{ACCEPTED, NOT-SOUND, OUT-OF-RANGE, TOO-EARLY, NOT-LISTED}
+use Rattle.numbers.specs.Numbers.{ACCEPTED, NOT-SOUND, OUT-OF-RANGE, TOO-EARLY, NOT-LISTED}
 use Rattle.slots.specs.Clocks.{sliceCount}
 use Rattle.slots.specs.declared.CoreSlot.{CoreSlot}
 use Rattle.slots.specs.Limits.{IDS, LAST-SLOT}

@@ -7,8 +7,8 @@ use Prim.Native.Nat.{ℕ, suc, _*_, _≤_, _<_}
 use Rattle.change.specs.Stages.{startEntries, weightSum}
 use Rattle.records.specs.declared.Reading.the-variants.{Whole, Refused}
 use Rattle.records.specs.declared.ReadRequest.{ReadRequest}
-use Rattle.records.specs.declared.Refusal.{Refusal}
-use Rattle.records.specs.Numbers.{NOT-SOUND, SMALL-AREA, TOO-EARLY, OVERFULL, BEHIND}
+use Rattle.numbers.specs.declared.Refusal.{Refusal}
+use Rattle.numbers.specs.Numbers.{NOT-SOUND, SMALL-AREA, TOO-EARLY, OVERFULL, BEHIND}
 use Rattle.slots.specs.Limits.{IDS, WHOLE, AREA}
 use Rattle.timetable.specs.declared.Entry.{Entry}
 use Rattle.timetable.specs.declared.Timetable.{Timetable}

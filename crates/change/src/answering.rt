@@ -6,7 +6,7 @@ ghost use Rattle.change.specs.Change.{newTimetable, answerOf, refuse, ou
 ghost use Rattle.change.specs.Coded.{acceptedAs, Holds};
 ghost use Rattle.slots.specs.Limits.{AREA, LAST-SLOT, LONGEST};
 use crate::Outcome;
-use records::Refusal;
+use numbers::Refusal;
 use records::Request;
 use slots::CoreSlot;
 use timetable::Timetable;

@@ -8,10 +8,10 @@ ghost use Rattle.change.specs.Stages.{askedBound, overfull, behind, stag
 ghost use Rattle.timetable.specs.Sound.{entryInRange, isSound};
 ghost use Rattle.timetable.specs.Timetable.{isListed};
 use crate::Lowest;
+use numbers::Refusal;
 use records::Ask;
 use records::ReadRequest;
 use records::Reading;
-use records::Refusal;
 use records::Request;
 use timetable::Entry;
 use timetable::Timetable;

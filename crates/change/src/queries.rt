@@ -8,7 +8,7 @@ ghost use Rattle.timetable.specs.Sound.{isSound};
 ghost use Rattle.timetable.specs.Timetable.{lists};
 use crate::OwnerAnswer;
 use crate::StandingAnswer;
-use records::Refusal;
+use numbers::Refusal;
 use slots::CoreSlot;
 use slots::SliceCount;
 use timetable::Timetable;

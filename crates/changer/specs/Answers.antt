@@ -13,7 +13,7 @@ use Rattle.frames.specs.Coded.{Puts}
 use Rattle.frames.specs.declared.stream.Next.{Next}
 use Rattle.frames.specs.declared.stream.Next.the-variants.{Frame, Part, Bad}
 use Rattle.frames.specs.Program.{line}
-use Rattle.records.specs.Numbers.{ACCEPTED}
+use Rattle.numbers.specs.Numbers.{ACCEPTED}
 use Rattle.slots.specs.Limits.{AREA}
 use Rattle.timetable.specs.Timetable.{emptyTimetable}
 

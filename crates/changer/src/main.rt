@@ -4,7 +4,7 @@ use frames::HEADER;
 use frames::stream;
 use frames::stream::Next;
 use frames::stream::Places;
-use records::Refusal;
+use numbers::Refusal;
 use timetable::Timetable;
 ghost use lib.ListN.{length};
 ghost use mathlib.Core.Path.{_≡_};

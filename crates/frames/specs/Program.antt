@@ -5,7 +5,7 @@ use mathlib.Core.Bool.{Bool, true, false, cond, _&&_}
 use mathlib.Core.List.{List, [], _∷_, _++_}
 use Prim.Native.Nat.{ℕ, zero, suc, _+_, _/_, _%_}
 use Rattle.change.specs.Change.{Answer, answer}
-use Rattle.records.specs.Numbers.{ACCEPTED}
+use Rattle.numbers.specs.Numbers.{ACCEPTED}
 use Rattle.records.specs.Request.{lengthAt}
 use Rattle.slots.specs.Limits.{AREA}
 use Rattle.timetable.specs.declared.Timetable.{Timetable}

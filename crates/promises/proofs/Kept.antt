@@ -34,8 +34,8 @@ use Rattle.records.proofs.ReadLaws.{read-in-range, refused-in-range}
 use Rattle.records.proofs.ReadSteps.{request-read, request-is}
 use Rattle.records.proofs.RoundTrip.{round-trip}
 use Rattle.records.specs.declared.ReadRequest.{ReadRequest}
-use Rattle.records.specs.declared.Refusal.{Refusal}
-use Rattle.records.specs.Numbers.{ACCEPTED, NO-SCHEDULE}
+use Rattle.numbers.specs.declared.Refusal.{Refusal}
+use Rattle.numbers.specs.Numbers.{ACCEPTED, NO-SCHEDULE}
 use Rattle.records.specs.Reads.{RequestRead}
 use Rattle.records.specs.Request.{readRequest}
 use Rattle.slots.proofs.Below.{count-most}

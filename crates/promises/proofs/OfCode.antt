@@ -21,7 +21,7 @@ use Rattle.promises.proofs.Kept.{exact, kept-shortfall, one-owner, quer
 use Rattle.promises.specs.OfCode.{Meets, Serves, start, accepts, refuses, DemandOne, DemandTwo, DemandThree, DeficitMeans, QueriesOfCode}
 use Rattle.promises.specs.Promises.{QueriesTell, ServesOne, ShortestOf, ShortfallMeans, WindowsKept}
 use Rattle.records.specs.declared.ReadRequest.{ReadRequest}
-use Rattle.records.specs.Numbers.{ACCEPTED, NO-SCHEDULE}
+use Rattle.numbers.specs.Numbers.{ACCEPTED, NO-SCHEDULE}
 use Rattle.records.specs.Reads.{RequestRead}
 use Rattle.records.specs.Request.{readRequest}
 use Rattle.timetable.specs.declared.Timetable.{Timetable}

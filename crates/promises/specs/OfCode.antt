@@ -16,8 +16,8 @@ use Rattle.change.specs.Queries.{ownerQuery, standingQuery}
 use Rattle.change.specs.Refused.{Refuses}
 use Rattle.promises.specs.Promises.{Passes, ServesOne, ShortestOf, ShortfallMeans, WindowsKept}
 use Rattle.records.specs.declared.ReadRequest.{ReadRequest}
-use Rattle.records.specs.declared.Refusal.{Refusal}
-use Rattle.records.specs.Numbers.{ACCEPTED, NO-SCHEDULE}
+use Rattle.numbers.specs.declared.Refusal.{Refusal}
+use Rattle.numbers.specs.Numbers.{ACCEPTED, NO-SCHEDULE}
 use Rattle.records.specs.Reads.{RequestRead}
 use Rattle.records.specs.Request.{readRequest}
 use Rattle.slots.specs.Clocks.{coreSlot, sliceCount}

@@ -21,9 +21,9 @@ use Rattle.placement.specs.Any.{CyclicPlacement, NoPlacement}
 use Rattle.placement.specs.Placement.{Place, placement, settle}
 use Rattle.records.specs.declared.Reading.the-variants.{Whole, Refused}
 use Rattle.records.specs.declared.ReadRequest.{ReadRequest}
-use Rattle.records.specs.declared.Refusal.{Refusal}
+use Rattle.numbers.specs.declared.Refusal.{Refusal}
 use Rattle.records.specs.declared.Request.{Request}
-use Rattle.records.specs.Numbers.{ACCEPTED, NOT-SOUND, SMALL-AREA, BAD-FIELD, OUT-OF-RANGE, NOT-RISING, TOO-EARLY, OVERFULL, BEHIND, NO-SCHEDULE, NOT-LISTED}
+use Rattle.numbers.specs.Numbers.{ACCEPTED, NOT-SOUND, SMALL-AREA, BAD-FIELD, OUT-OF-RANGE, NOT-RISING, TOO-EARLY, OVERFULL, BEHIND, NO-SCHEDULE, NOT-LISTED}
 use Rattle.records.specs.Reads.{Bytes, RequestRange, RefusalRange, RequestRead}
 use Rattle.records.specs.Request.{readRequest}
 use Rattle.records.specs.Written.{requestRecord}

@@ -9,9 +9,9 @@ use Rattle.records.specs.declared.LimitField.{LimitField}
 use Rattle.records.specs.declared.ListedField.{ListedField}
 use Rattle.records.specs.declared.ListedField.the-variants.{Value as listed-value, Refused as listed-refused}
 use Rattle.records.specs.declared.SlotField.{SlotField}
-use Rattle.records.specs.Numbers.{NOT-RISING}
+use Rattle.numbers.specs.Numbers.{NOT-RISING, refusal}
 pub use Rattle.records.specs.Reads.{SlotRead, LimitRead, ListedForm, ListedRead}
-use Rattle.records.specs.Request.{contentAt, isField, limitField, listedAs, listedField, refusal, slotField}
+use Rattle.records.specs.Request.{contentAt, isField, limitField, listedAs, listedField, slotField}
 
 -- A form, then a range, tested in this order.
 tested : {A : Type 0} (Gives : A → Type 0) (form range : Bool) (a b c : A) → (form ≡ false → Gives c)

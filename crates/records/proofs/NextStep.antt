@@ -14,7 +14,7 @@ use Rattle.records.specs.declared.ListedField.{ListedField}
 use Rattle.records.specs.declared.ListedField.the-variants.{Value as listed-value, Refused as listed-refused}
 use Rattle.records.specs.declared.Listing.{Listing}
 use Rattle.records.specs.declared.Reading.the-variants.{Whole, Refused}
-use Rattle.records.specs.declared.Refusal.{Refusal}
+use Rattle.numbers.specs.declared.Refusal.{Refusal}
 use Rattle.records.specs.declared.SlotField.the-variants.{Value as slot-value, Refused as slot-refused}
 use Rattle.records.specs.Request.{limitField, listedAs, listedField, noAsks, readListing, readRequest, refusedRequest, slotField, withListing}
 use Rattle.slots.specs.declared.CoreSlot.{CoreSlot}

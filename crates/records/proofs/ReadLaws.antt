@@ -16,7 +16,7 @@ use Rattle.records.specs.declared.ListedField.the-variants.{Refused as l
 use Rattle.records.specs.declared.Listing.{Listing}
 use Rattle.records.specs.declared.Reading.the-variants.{Whole, Refused}
 use Rattle.records.specs.declared.ReadRequest.{ReadRequest}
-use Rattle.records.specs.declared.Refusal.{Refusal}
+use Rattle.numbers.specs.declared.Refusal.{Refusal}
 use Rattle.records.specs.declared.SlotField.the-variants.{Value as slot-value, Refused as slot-refused}
 pub use Rattle.records.specs.Reads.{AskRange, AsksRange, RequestRange, RefusalRange}
 use Rattle.records.specs.Request.{askOf, contentAt, noAsk, noAsks, readRequest, refusedRequest}

@@ -1,4 +1,3 @@
-pub mod Numbers
 pub mod Request
 pub mod Answer
 pub mod AnswerForm

@@ -13,11 +13,11 @@ use Rattle.records.specs.declared.ListedField.the-variants.{Value as lis
 use Rattle.records.specs.declared.Listing.{Listing}
 use Rattle.records.specs.declared.Reading.the-variants.{Whole, Refused}
 use Rattle.records.specs.declared.ReadRequest.{ReadRequest}
-use Rattle.records.specs.declared.Refusal.{Refusal}
+use Rattle.numbers.specs.declared.Refusal.{Refusal}
 use Rattle.records.specs.declared.Request.{Request}
 use Rattle.records.specs.declared.SlotField.{SlotField}
 use Rattle.records.specs.declared.SlotField.the-variants.{Value as slot-value, Refused as slot-refused}
-use Rattle.records.specs.Numbers.{BAD-FIELD, OUT-OF-RANGE, NOT-RISING}
+use Rattle.numbers.specs.Numbers.{BAD-FIELD, OUT-OF-RANGE, NOT-RISING}
 use Rattle.records.specs.Request.{askOf, contentAt, isField, isListing, noAsks, numberAt, refusedRequest}
 use Rattle.slots.specs.Clocks.{coreSlot}
 use Rattle.slots.specs.declared.CoreSlot.{CoreSlot}

@@ -12,10 +12,10 @@ use Rattle.records.specs.declared.ListedField.the-variants.{Value as lis
 use Rattle.records.specs.declared.Listing.{Listing}
 use Rattle.records.specs.declared.Reading.the-variants.{Whole, Refused}
 use Rattle.records.specs.declared.ReadRequest.{ReadRequest}
-use Rattle.records.specs.declared.Refusal.{Refusal}
+use Rattle.numbers.specs.declared.Refusal.{Refusal}
 use Rattle.records.specs.declared.SlotField.{SlotField}
 use Rattle.records.specs.declared.SlotField.the-variants.{Value as slot-value, Refused as slot-refused}
-use Rattle.records.specs.Numbers.{BAD-FIELD, OUT-OF-RANGE, NOT-RISING}
+use Rattle.numbers.specs.Numbers.{BAD-FIELD, OUT-OF-RANGE, NOT-RISING, refusal}
 use Rattle.slots.specs.Clocks.{coreSlot}
 use Rattle.slots.specs.declared.CoreSlot.{CoreSlot}
 use Rattle.slots.specs.Limits.{IDS, LAST-SLOT, LONGEST, LARGEST-K}
@@ -38,10 +38,6 @@ contentAt s at n = getD s (at + 3 + n) 0
 unfoldable pub isField : List ℕ → ℕ → ℕ → ℕ → Bool
 isField s at tag size =
     leb (at + 3 + size) (length s) && eqb (getD s at 0) tag && eqb (lengthAt s at) size
-
--- A refusal: its number, and as its place the place of the field's tag.
-abbrev pub refusal : ℕ → ℕ → Refusal
-refusal number place = record { number = number; place = place }
 
 -- Tag 1, length 8: the request slot, at most 2^48 - 1.
 unfoldable pub slotField : List ℕ → ℕ → SlotField

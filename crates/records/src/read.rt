@@ -2,7 +2,7 @@
 ghost use lib.ListN.{length};
 ghost use mathlib.Core.Path.{_≡_};
 ghost use Prim.Native.Nat.{_+_, _^_, _≤_, _<_};
-ghost use Rattle.records.specs.declared.Refusal.{Refusal};
+ghost use Rattle.numbers.specs.declared.Refusal.{Refusal};
 ghost use Rattle.records.specs.Request.{contentAt, isField, isListing, limitField, listedAs, listedField, noAsks, numberAt, readListing, readRequest, refusedRequest, slotField, withListing};
 ghost use Rattle.slots.specs.Limits.{LARGEST-K};
 use super::Ask;
@@ -13,9 +13,9 @@ use super::ListedField;
 use super::Listing;
 use super::ReadRequest;
 use super::Reading;
-use super::Refusal;
 use super::Request;
 use super::SlotField;
+use numbers::Refusal;
 use slots::CoreSlot;
 use timetable::Timetable;
 

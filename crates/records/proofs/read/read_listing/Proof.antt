@@ -9,7 +9,7 @@ use Rattle.records.proofs.read.read_listing.Statement.{statement}
 use Rattle.records.proofs.read.read_listing.Tie as tie
 use Rattle.records.specs.declared.ListedField.the-variants.{Value}
 use Rattle.records.specs.declared.Reading.the-variants.{Refused}
-use Rattle.records.specs.declared.Refusal.{Refusal}
+use Rattle.numbers.specs.declared.Refusal.{Refusal}
 use Rattle.records.specs.Request.{noAsks}
 
 abbrev Inv-loop : tie.InvT-loop

@@ -1,5 +1,6 @@
--- Document 01, "What each number says": the numbers by name.
+-- Document 01, "What each number says": the numbers by name, and a refusal.
 use Prim.Native.Nat.{ℕ}
+use Rattle.numbers.specs.declared.Refusal.{Refusal}
 
 -- accepted
 abbrev pub ACCEPTED : ℕ
@@ -44,3 +45,7 @@ NO-SCHEDULE = 9
 -- id not listed
 abbrev pub NOT-LISTED : ℕ
 NOT-LISTED = 10
+
+-- A refusal: its number and its place.
+abbrev pub refusal : ℕ → ℕ → Refusal
+refusal number place = record { number = number; place = place }
