@@ -11,7 +11,7 @@ use Rattle.changer.specs.declared.Controller.{Controller}
 use Rattle.changer.specs.Runs.{putBy}
 use Rattle.frames.proofs.ProgramLaws.{line-next}
 use Rattle.frames.specs.Buffers.{Inside, Stands, Waits, lineAt, unread}
-use Rattle.frames.specs.Coded.{Puts, overlaid}
+use Rattle.frames.specs.Coded.{Puts}
 use Rattle.frames.specs.declared.stream.Next.{Next}
 use Rattle.frames.specs.declared.stream.Next.the-variants.{Frame, Part, Bad}
 use Rattle.frames.specs.Program.{badFrame, line, linesFrom}
@@ -19,7 +19,6 @@ use Rattle.slots.specs.Limits.{AREA}
 
 -- What waits at the front of the output was put there.
 waiting : (before after : List ℕ) (put : ℕ) (cut : Bool) → Waits cut before after put → Puts before 0 (cond cut badFrame []) after put
-unfolding overlaid
 waiting before after put true w = w
 waiting before after put false w = record { end = w .0; bytes = w .1 }
 

@@ -2,15 +2,16 @@
 use borrow.Author.Tests.{eqb-true, le-ltb, lt-ltb}
 use lib.Dec.{eqb, leb, ltb}
 use lib.ListN.{drop, length, length-drop, take}
-use lib.Seq.{length-take-le, take-at}
+use lib.Seq.{length-take-le, sets}
 use mathlib.Core.Bool.{Bool, true, false, cond, _&&_}
 use mathlib.Core.List.{List}
 use mathlib.Core.Path.{_≡_, refl, sym, ap, _∙_}
 use native.Mathlib.Omega.{arith}
-use Prim.Native.Nat.{ℕ, _+_, _-_, _≤_, _<_}
+use Prim.Native.Nat.{ℕ, _-_, _≤_, _<_}
 use Rattle.frames.specs.Buffers.{Ended, Filled, Inside, lineAt, unread}
-use Rattle.frames.specs.Coded.{LINE-ROOM, overlaid}
+use Rattle.frames.specs.Coded.{LINE-ROOM}
 use Rattle.frames.specs.declared.stream.Places.{Places}
+use Rattle.records.proofs.SetsLaws.{sets-taken}
 
 -- A line goes to the front of an output where nothing waits.
 at-front : (room : ℕ) → lineAt 0 room ≡ 0
@@ -32,11 +33,6 @@ more-read kept to h = rw h (and-false (ltb 0 kept))
     and-false true = refl
     and-false false = refl
 
--- A text put at the front stands there.
-over-front : (l text : List ℕ) (n : ℕ) → length text ≡ n → take n (overlaid l 0 text) ≡ text
-unfolding overlaid
-over-front l text n e = take-at text (drop (0 + length text) l) n e
-
 -- The places once some bytes stand at the front and the input was read behind them.
 abbrev pub readTo : ℕ → ℕ → ℕ → Places
 readTo kept to put = record { from = 0; to = to; put = put; «open» = ltb kept to }
@@ -44,7 +40,7 @@ readTo kept to put = record { from = 0; to = to; put = put; «open» = ltb kept 
 module _ (s : Places) (input moved then out : List ℕ) (kept to put : ℕ)
     (inside : Inside s (length input) (length out))
     (count : kept ≡ s .to - s .from)
-    (front : moved ≡ overlaid input 0 (take kept (drop (s .from) input)))
+    (front : moved ≡ sets input 0 (take kept (drop (s .from) input)))
     (still : take kept then ≡ take kept moved)
     (more : kept ≤ to)
     (printed : put ≡ 0)
@@ -54,7 +50,7 @@ module _ (s : Places) (input moved then out : List ℕ) (kept to put : ℕ)
     kept-front =
         let l : length (take kept (drop (s .from) input)) ≡ kept =
         length-take-le kept (drop (s .from) input) (simp length-drop (omega (arith, inside .unread, inside .read))) in
-        rw count at (still ∙ ap (take kept) front ∙ over-front input (take kept (drop (s .from) input)) kept l)
+        rw count at (still ∙ ap (take kept) front ∙ sets-taken input (take kept (drop (s .from) input)) kept l (omega (arith, inside .read)))
 
     -- More was read, or nothing was left: the output is as it was.
     pub filled-on : ltb 0 kept && eqb kept to ≡ false → Filled s input out then out (readTo kept to put)

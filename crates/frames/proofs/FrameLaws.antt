@@ -2,16 +2,17 @@
 use borrow.Author.Tests.{eq-eqb, eqb-true, le-leb, leb-true, lt-leb, ne-eqb}
 use lib.Dec.{eqb, leb}
 use lib.ListN.{List·getD-append, drop, getD, length, length-drop, set, take}
-use lib.Seq.{drop-paste, getD-drop, length-take-le, paste, paste-suc}
+use lib.Seq.{getD-drop, length-take-le, sets}
 use mathlib.Core.Bool.{Bool, true, false, cond, _&&_}
 use mathlib.Core.List.{List, _++_}
 use mathlib.Core.Path.{_≡_, refl, sym, ap, _∙_}
-use native.Mathlib.Numerals.{add-one}
+use native.Mathlib.Nat.{zero-add}
 use native.Mathlib.Omega.{arith}
-use Prim.Native.Nat.{ℕ, _+_, _*_, _≤_, _<_, zero-le}
-use Rattle.frames.specs.Coded.{headOf, overlaid}
+use Prim.Native.Nat.{ℕ, _+_, _*_, _≤_, _<_}
+use Rattle.frames.specs.Coded.{headOf}
 use Rattle.frames.specs.declared.Head.the-variants.{Content, Bad}
 use Rattle.frames.specs.Program.{FRAME-TAG, LONGEST-FRAME, isFrame}
+use Rattle.records.proofs.SetsLaws.{sets-next, sets-rest}
 use Rattle.records.specs.Request.{lengthAt, numberAt}
 use Rattle.slots.proofs.Below.{and-both}
 
@@ -98,30 +99,11 @@ module _ (s : List ℕ) where
       let c = List·getD-append s more 0 2 (omega arith) in
       let z : _≡_ {A = ℕ} 0 1 = cc in omega arith)
 
--- A buffer whose bytes from a place on were moved to the front, the first few of them.
-abbrev pub moved : List ℕ → ℕ → ℕ → List ℕ
-moved l from count = paste l 0 (drop from l) count
-
-module _ (l : List ℕ) (from i : ℕ) where
-  -- One byte more.
-  pub moved-more : from + i < length l → set (moved l from i) i (getD (moved l from i) (from + i) 0) ≡ moved l from (i + 1)
-  moved-more h =
-      let n : i < length (drop from l) = simp length-drop (omega arith) in
-      let z : 0 + i ≡ i = omega arith in
-      let w : from + i ≡ 0 + i + from = omega arith in
-      let read : getD (moved l from i) (from + i) 0 ≡ getD (drop from l) i 0 =
-      ap (λ (k : ℕ). getD (moved l from i) k 0) w
-      ∙ sym (getD-drop (0 + i) (moved l from i) from 0)
-      ∙ ap (λ (m : List ℕ). getD m from 0) (drop-paste l 0 (drop from l) i zero-le (omega arith))
-      ∙ getD-drop (0 + i) l from 0
-      ∙ ap (λ (k : ℕ). getD l k 0) (sym w)
-      ∙ sym (getD-drop from l i 0) in
-      ap (λ (k : ℕ). set (moved l from i) k (getD (moved l from i) (from + i) 0)) (sym z)
-      ∙ ap (set (moved l from i) (0 + i)) read
-      ∙ paste-suc l 0 (drop from l) i 0 (omega arith) n
-      ∙ ap (moved l from) (sym (add-one i))
-
-  -- They stand at the front, and behind them what stood there.
-  pub moved-over : from + i ≤ length l → moved l from i ≡ overlaid l 0 (take i (drop from l))
-  unfolding overlaid
-  moved-over h = let n : length (take i (drop from l)) ≡ i = length-take-le i (drop from l) (simp length-drop (omega arith)) in rw n refl
+-- A buffer whose bytes from a place on are moved to the front: one byte more.
+pub moved-more : (l : List ℕ) (from i : ℕ) → from + i < length l
+    → set (sets l 0 (take i (drop from l))) i (getD (sets l 0 (take i (drop from l))) (from + i) 0) ≡ sets l 0 (take (i + 1) (drop from l))
+moved-more l from i h =
+    let n : i < length (drop from l) = simp length-drop (omega arith) in
+    let k : length (take i (drop from l)) ≤ from + i = omega (arith, length-take-le i (drop from l) (omega arith)) in
+    ap (set (sets l 0 (take i (drop from l))) i) (sets-rest l 0 (from + i) (take i (drop from l)) (omega arith) ∙ sym (getD-drop from l i 0))
+    ∙ rw zero-add at (sets-next l (drop from l) 0 i n)

@@ -1,16 +1,16 @@
 -- A text put into a buffer, one after another; the digits that `io` writes; a line from its numbers. Assumes nothing.
 use borrow.Author.Tests.{le-ltb, lt-ltb}
-use lib.ListN.{drop, length, length-append, set, take}
-use lib.Seq.{append-snoc, drop-at, drop-drop, length-take-le, paste, set-split, take-at, take-length}
+use lib.ListN.{length-append, set}
+use lib.Seq.{sets}
 use mathlib.Core.List.{List, [], _∷_, _++_, append-assoc}
 use mathlib.Core.Path.{_≡_, refl, sym, ap, _∙_}
-use native.Mathlib.Nat.{add-assoc, lt-of-not-le, one-le-pow, pow-le-pow-right, pow-succ'}
-use native.Mathlib.Numerals.{add-one}
+use native.Mathlib.Nat.{lt-of-not-le, one-le-pow, pow-le-pow-right, pow-succ'}
 use native.Mathlib.Omega.{arith}
 use Prim.Native.Nat.{ℕ, zero, suc, _+_, _-_, _*_, _/_, _%_, _^_, _≤_, _<_}
-use Rattle.frames.specs.Coded.{Puts, overlaid}
+use Rattle.frames.specs.Coded.{Puts}
 use Rattle.frames.specs.Program.{decimal, digits, lineOf}
 use Rattle.io.specs.Digits.{Fewest, digits as io-digits}
+use Rattle.records.proofs.SetsLaws.{sets-then}
 
 -- The digits that `io` writes, the fewest of them, are those of a line.
 pub digits-io : (most k n : ℕ) → k ≤ most → Fewest 10 1 n k → digits most n ≡ io-digits 10 k n
@@ -43,47 +43,21 @@ few-digits n k h f = omega (arith, lt-of-not-le {n = 21} {m = k} long)
         let p : 10 ^ 20 ≤ 10 ^ (k - 1) = pow-le-pow-right {n = 10} (omega arith) {i = 20} {j = k - 1} (omega arith) in
         omega arith
 
-module _ (l : List ℕ) (at : ℕ) (a : List ℕ) (inside : at ≤ length l) where
-  -- Up to the text's end stands what was before it, then the text.
-  front : take (at + length a) (overlaid l at a) ≡ take at l ++ a
-  unfolding overlaid
-  front = take-at (take at l ++ a) _ (at + length a) (simp length-append (omega (arith, length-take-le at l inside)))
-
-  -- Behind the text stands what stood there.
-  behind : drop (at + length a) (overlaid l at a) ≡ drop (at + length a) l
-  unfolding overlaid
-  behind = drop-at (take at l ++ a) _ (at + length a) (simp length-append (omega (arith, length-take-le at l inside)))
-
-  -- A text put behind a text makes one text.
-  pub put-more : (m : List ℕ) (p : ℕ) → Puts l at a m p → (b n : List ℕ) (r : ℕ) → Puts m p b n r → Puts l at (a ++ b) n r
-  unfolding overlaid
-  put-more m p f b n r g =
-      let e = f .end in
-      let w = f .bytes in
-      record {
-        end = g .end ∙ simp length-append (omega arith);
-        bytes = g .bytes ∙ rw (w, e) (rw (front, ← drop-drop (length b) (at + length a) (overlaid l at a), behind, drop-drop (length b) (at + length a) l, length-append a b, add-assoc at (length a) (length b), append-assoc (take at l) a b) refl);
-      }
-
--- A byte stored is a text of one byte.
-put-one : (l : List ℕ) (at x : ℕ) → at < length l → Puts l at (x ∷ []) (set l at x) (at + 1)
-unfolding overlaid
-put-one l at x h =
-    record { end = refl; bytes = set-split l at x h ∙ rw (add-one, append-snoc) refl }
-
--- A text of which every byte was copied was put.
-pub put-whole : (l : List ℕ) (at : ℕ) (text : List ℕ) (i : ℕ) (m : List ℕ) → i ≡ length text → m ≡ paste l at text i → Puts l at text m (at + i)
-unfolding overlaid
-put-whole l at text i m e f = record { end = ap (λ (k : ℕ). at + k) e; bytes = f ∙ rw (e, take-length) refl }
+-- A text put behind a text makes one text.
+put-more : (l : List ℕ) (at : ℕ) (a m : List ℕ) (p : ℕ) → Puts l at a m p → (b n : List ℕ) (r : ℕ) → Puts m p b n r → Puts l at (a ++ b) n r
+put-more l at a m p f b n r g =
+    record {
+      end = g .end ∙ simp length-append (omega (arith, f .end));
+      bytes = g .bytes ∙ ap (λ (x : List ℕ). sets x p b) (f .bytes) ∙ sets-then l at p a b (f .end);
+    }
 
 -- The digits of a number and the byte behind them were put.
-pub put-number : (l : List ℕ) (at n k x : ℕ) (text m : List ℕ) (p : ℕ) → at + 21 ≤ length l → k ≤ 20 → Fewest 10 1 n k → text ≡ io-digits 10 k n → k ≡ length text
-    → Puts l at text m p → length m ≡ length l → Puts l at (decimal n ++ (x ∷ [])) (set m p x) (p + 1)
+pub put-number : (l : List ℕ) (at n k x : ℕ) (text m : List ℕ) (p : ℕ) → k ≤ 20 → Fewest 10 1 n k → text ≡ io-digits 10 k n → Puts l at text m p
+    → Puts l at (decimal n ++ (x ∷ [])) (set m p x) (p + 1)
 unfolding decimal
-put-number l at n k x text m p room few fewest e size f kept =
+put-number l at n k x text m p few fewest e f =
     let t : digits 20 n ≡ text = digits-io 20 k n few fewest ∙ sym e in
-    let end = f .end in
-    rw t (put-more l at text (omega arith) m p f (x ∷ []) (set m p x) (p + 1) (put-one m p x (omega arith)))
+    rw t (put-more l at text m p f (x ∷ []) (set m p x) (p + 1) (record { end = refl; bytes = refl }))
 
 -- A space behind a text or before the next one.
 next : (a b t : List ℕ) → a ++ (32 ∷ []) ++ (b ++ t) ≡ a ++ (32 ∷ b) ++ t
@@ -101,15 +75,15 @@ module _ (ordinal number place tries size : ℕ) where
       rw (next o (decimal number) (32 ∷ []), next n (decimal place) (32 ∷ []), next p (decimal tries) (32 ∷ []), next (p ++ (32 ∷ decimal tries)) (decimal size) (10 ∷ [])) refl
 
   -- Five numbers put one behind another are the line.
-  pub put-line : (l : List ℕ) (at : ℕ) → at ≤ length l
+  pub put-line : (l : List ℕ) (at : ℕ)
       → (l1 : List ℕ) (p1 : ℕ) → Puts l at (decimal ordinal ++ (32 ∷ [])) l1 p1
       → (l2 : List ℕ) (p2 : ℕ) → Puts l1 p1 (decimal number ++ (32 ∷ [])) l2 p2
       → (l3 : List ℕ) (p3 : ℕ) → Puts l2 p2 (decimal place ++ (32 ∷ [])) l3 p3
       → (l4 : List ℕ) (p4 : ℕ) → Puts l3 p3 (decimal tries ++ (32 ∷ [])) l4 p4
       → (l5 : List ℕ) (p5 : ℕ) → Puts l4 p4 (decimal size ++ (10 ∷ [])) l5 p5
       → Puts l at (lineOf ordinal number place tries size) l5 p5
-  put-line l at h l1 p1 e1 l2 p2 e2 l3 p3 e3 l4 p4 e4 l5 p5 e5 =
-      let two = put-more l at _ h l1 p1 e1 _ l2 p2 e2 in
-      let three = put-more l at _ h l2 p2 two _ l3 p3 e3 in
-      let four = put-more l at _ h l3 p3 three _ l4 p4 e4 in
-      rw numbers at (put-more l at _ h l4 p4 four _ l5 p5 e5)
+  put-line l at l1 p1 e1 l2 p2 e2 l3 p3 e3 l4 p4 e4 l5 p5 e5 =
+      let two = put-more l at _ l1 p1 e1 _ l2 p2 e2 in
+      let three = put-more l at _ l2 p2 two _ l3 p3 e3 in
+      let four = put-more l at _ l3 p3 three _ l4 p4 e4 in
+      rw numbers at (put-more l at _ l4 p4 four _ l5 p5 e5)

@@ -1,8 +1,9 @@
 -- What the code over frames and lines answers, in the words of Program: a frame's first three bytes, and a text put into a buffer.
 use lib.Dec.{eqb, leb}
-use lib.ListN.{drop, length, take}
+use lib.ListN.{length}
+use lib.Seq.{sets}
 use mathlib.Core.Bool.{cond, _&&_}
-use mathlib.Core.List.{List, _++_}
+use mathlib.Core.List.{List}
 use mathlib.Core.Path.{_≡_}
 use Prim.Native.Nat.{ℕ, _+_, _*_}
 use Rattle.frames.specs.declared.Head.{Head}
@@ -22,11 +23,7 @@ unfoldable pub headOf : ℕ → ℕ → ℕ → Head
 headOf tag high low =
     cond (eqb tag FRAME-TAG && leb (256 * high + low) LONGEST-FRAME) (Content (256 * high + low)) Bad
 
--- A buffer with a text in the place of what stood from a position on.
-unfoldable pub overlaid : List ℕ → ℕ → List ℕ → List ℕ
-overlaid buffer at text = take at buffer ++ text ++ drop (at + length text) buffer
-
 -- A text was put into a buffer from a position on: the position after it, and what the buffer has then.
 pub record Puts (buffer : List ℕ) (at : ℕ) (text : List ℕ) (then : List ℕ) (next : ℕ) : Type 0 where
   pub end : next ≡ at + length text
-  pub bytes : then ≡ overlaid buffer at text
+  pub bytes : then ≡ sets buffer at text

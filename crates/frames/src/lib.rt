@@ -1,9 +1,10 @@
 // The frames that a program reads and the lines that it prints, over buffers that the caller keeps. A frame with another tag or a content above 4,096 bytes is refused.
 ghost use lib.ListN.{drop, length, take};
+ghost use lib.Seq.{sets};
 ghost use mathlib.Core.List.{[], _∷_, _++_};
 ghost use mathlib.Core.Path.{_≡_};
 ghost use Prim.Native.Nat.{_+_, _-_, _≤_};
-ghost use Rattle.frames.specs.Coded.{LINE-ROOM, NUMBER-ROOM, Puts, headOf, overlaid};
+ghost use Rattle.frames.specs.Coded.{LINE-ROOM, NUMBER-ROOM, Puts, headOf};
 ghost use Rattle.frames.specs.Program.{badFrame, decimal as Program·decimal, lineOf};
 
 pub mod stream; // stream.rt: a program's two buffers
@@ -49,7 +50,7 @@ pub fn frame_head(tag: u8, high: u8, low: u8) -> Head
 // Moves the bytes from `from` up to `to` to the front of the buffer, and tells how many they are.
 pub fn keep_rest(buf: &mut [u8], from: usize, to: usize) -> usize
     requires { ⌜ (from ≤ to) × (to ≤ length (now buf)) ⌝ }
-    ensures { λ r. ⌜ (r ≡ to - from) × (now (buf .exit) ≡ overlaid (now (buf .entry)) 0 (take r (drop from (now (buf .entry))))) ⌝ }
+    ensures { λ r. ⌜ (r ≡ to - from) × (now (buf .exit) ≡ sets (now (buf .entry)) 0 (take r (drop from (now (buf .entry))))) ⌝ }
 {
     let count = to - from;
     let mut i = 0;

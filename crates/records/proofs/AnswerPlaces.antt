@@ -1,7 +1,7 @@
 -- An answer that is written stands in the area field by field, and what stands so has one content: every byte of the area is in one field, or behind
 -- them all. Assumes nothing.
-use lib.ListN.{drop, getD, length, length-append, length-drop, List·getD-append, take}
-use lib.Seq.{ext-getD, getD-append-add, getD-drop, getD-take, length-take-le}
+use lib.ListN.{drop, getD, length, length-append, List·getD-append, take}
+use lib.Seq.{ext-getD, getD-append-add, getD-take, length-sets, length-take-le, sets}
 use mathlib.Core.Bool.{true}
 use mathlib.Core.List.{List, [], _∷_, _++_, append-assoc}
 use mathlib.Core.Path.{_≡_, refl, sym, ap, _∙_, subst}
@@ -10,6 +10,7 @@ use native.Mathlib.Nat.{add-assoc, zero-add}
 use native.Mathlib.Omega.{arith}
 use Prim.Native.Nat.{ℕ, suc, _+_, _-_, _*_, _/_, _≤_, _<_}
 use Rattle.records.proofs.AnswerLaws.{answer-bytes, answer-length, answer-run, answerHead, offsets-length}
+use Rattle.records.proofs.SetsLaws.{sets-front, sets-rest}
 use Rattle.records.specs.Answer.{answerRecord, field, offsetFields}
 use Rattle.records.specs.AnswerForm.{AnswerStands, listedBelow, Stand}
 use Rattle.slots.proofs.Below.{count-reaches, count-rises}
@@ -90,21 +91,19 @@ module _ (size : ℕ) (owners : List ℕ) (es : List Entry) (small : size ≤ LO
 
 -- An answer that is written stands so.
 pub answer-stands : (size : ℕ) (owners : List ℕ) (es : List Entry) (before : List ℕ) → size ≤ LONGEST → size ≤ length owners → AREA ≤ length before
-    → AnswerStands before size owners es (length (answerRecord size owners es))
-    (answerRecord size owners es ++ drop (length (answerRecord size owners es)) before)
+    → AnswerStands before size owners es (length (answerRecord size owners es)) (sets before 0 (answerRecord size owners es))
 answer-stands size owners es before small enough room =
     let r = answerRecord size owners es in
     let t = drop (length r) before in
+    let e = sets-front before r (omega (arith, answer-length size owners es small)) in
     record {
-      length-field = length-stands size owners es small enough t;
-      owners-field = owners-stand size owners es small enough t;
-      owner = owner-stands size owners es small enough t;
-      offset-field = offset-stands size owners es small enough t;
+      length-field = rw e (length-stands size owners es small enough t);
+      owners-field = rw e (owners-stand size owners es small enough t);
+      owner = rw e (owner-stands size owners es small enough t);
+      offset-field = rw e (offset-stands size owners es small enough t);
       bytes = omega (arith, answer-bytes size owners es, length-take-le size owners enough);
-      rest = λ n h.
-          let e : n ≡ length r + (n - length r) = omega arith in
-          rw e (getD-append-add r t (n - length r) 0 ∙ getD-drop (length r) before (n - length r) 0);
-      same = simp (length-append, length-drop) (omega (arith, answer-length size owners es small));
+      rest = λ n h. sets-rest before 0 n r (omega arith);
+      same = length-sets before 0 r;
     }
 
 -- What stands in two areas at one place is the same there.

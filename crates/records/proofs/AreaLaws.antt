@@ -1,28 +1,19 @@
 -- An area after a run of stores: what is stored next goes behind, field by field, up to a whole answer. Assumes nothing.
 use borrow.Author.Tests.{lt-ltb, le-ltb}
-use lib.ListN.{drop, getD, length, length-append, set, take}
-use lib.Seq.{length-take-le, sets, sets-eq, take-suc}
+use lib.ListN.{length, length-append, set, take}
+use lib.Seq.{length-take-le, sets}
 use mathlib.Core.List.{List, [], _∷_, _++_, append-nil}
 use mathlib.Core.Path.{_≡_, refl, sym, ap, _∙_}
-use native.Mathlib.Nat.{add-zero, zero-add}
 use native.Mathlib.Numerals.{add-one}
 use native.Mathlib.Omega.{arith}
-use Prim.Native.Nat.{ℕ, suc, _+_, _*_, _≤_, _<_}
-use Rattle.records.proofs.AnswerLaws.{answer-length, answer-run, answerHead, offsets-length}
+use Prim.Native.Nat.{ℕ, _+_, _*_, _≤_, _<_}
+use Rattle.records.proofs.AnswerLaws.{answer-run, answerHead, offsets-length}
+use Rattle.records.proofs.SetsLaws.{set-then, sets-then}
 use Rattle.records.specs.Answer.{answerRecord, field, offsetFields}
 use Rattle.slots.proofs.Below.{count-most}
-use Rattle.slots.specs.Limits.{AREA, IDS, LONGEST}
+use Rattle.slots.specs.Limits.{IDS, LONGEST}
 use Rattle.timetable.specs.declared.Entry.{Entry}
 use Rattle.timetable.specs.Timetable.{entryOf, isListed}
-
--- A run of stores, then one that starts where it ends, is one run.
-pub sets-then : (l : List ℕ) (i k : ℕ) (vs ws : List ℕ) → k ≡ i + length vs → sets (sets l i vs) k ws ≡ sets l i (vs ++ ws)
-sets-then l i k [] ws e = rw (e, add-zero i)
-sets-then l i k (v ∷ vs) ws e = sets-then (set l i v) (suc i) k vs ws (omega arith)
-
--- A run of stores, then one byte behind it.
-pub set-then : (l : List ℕ) (i k : ℕ) (vs : List ℕ) (v : ℕ) → k ≡ i + length vs → set (sets l i vs) k v ≡ sets l i (vs ++ v ∷ [])
-set-then l i k vs v e = sets-then l i k vs (v ∷ []) e
 
 -- The field of a listed partition, its head stored first.
 pub offset-field : (l m : List ℕ) (at id offset : ℕ) → m ≡ sets l at (0x12 ∷ 0 ∷ 2 ∷ [])
@@ -33,25 +24,19 @@ offset-field l m at id offset e =
     ∙ ap (λ (x : List ℕ). set x (at + 4) offset) (set-then l at (at + 3) (0x12 ∷ 0 ∷ 2 ∷ []) id refl)
     ∙ set-then l at (at + 4) (0x12 ∷ 0 ∷ 2 ∷ id ∷ []) offset refl
 
--- One owner more.
-pub owner-next : (l owners : List ℕ) (from n : ℕ) → n < length owners
-    → set (sets l from (take n owners)) (from + n) (getD owners n 0) ≡ sets l from (take (n + 1) owners)
-owner-next l owners from n h =
-    rw (add-one n, take-suc owners n 0 h) (set-then l from (from + n) (take n owners) _ (omega (arith, length-take-le n owners (omega arith))))
-
 module _ (es : List Entry) (n : ℕ) where
   -- The offsets of the ids below n take at most five bytes each.
   pub offsets-room : length (offsetFields es n) ≤ 5 * n
   offsets-room = omega (arith, offsets-length es n, count-most (λ i. isListed (entryOf es i)) n)
 
   -- A listed id adds its field.
-  pub offsets-listed : 0 < entryOf es n .period
+  offsets-listed : 0 < entryOf es n .period
       → offsetFields es (n + 1) ≡ offsetFields es n ++ field 0x12 (n ∷ entryOf es n .offset ∷ [])
   unfolding offsetFields
   offsets-listed h = rw (add-one n, offsetFields, lt-ltb _ _ h)
 
   -- An id that is not listed adds nothing.
-  pub offsets-same : entryOf es n .period ≤ 0 → offsetFields es (n + 1) ≡ offsetFields es n
+  offsets-same : entryOf es n .period ≤ 0 → offsetFields es (n + 1) ≡ offsetFields es n
   unfolding offsetFields
   offsets-same h = rw (add-one n, offsetFields, le-ltb _ _ h) (append-nil (offsetFields es n))
 
@@ -82,17 +67,13 @@ module _ (l area : List ℕ) (from at : ℕ) (es : List Entry) (n : ℕ) (s : St
       let o = offsets-same es n h in
       record { content = s .content ∙ ap (sets l from) (sym o); place = omega (arith, s .place, ap (λ (x : List ℕ). length x) o) }
 
--- Stores from the start: what stands behind them stays.
-front : (l bytes : List ℕ) → length bytes ≤ length l → sets l 0 bytes ≡ bytes ++ drop (length bytes) l
-front l bytes h = rw zero-add at (sets-eq bytes l 0 (omega arith))
-
 module _ (n : ℕ) (owners : List ℕ) (es : List Entry) (small : n ≤ LONGEST) (enough : n ≤ length owners) where
-  -- An area in which they are stored one behind the other holds the answer, and what stands behind it stays.
-  pub answer-stored : (l a b d e : List ℕ) (k r : ℕ) → AREA ≤ length l → a ≡ sets l 0 (0x10 ∷ 0 ∷ 1 ∷ [])
+  -- An area in which they are stored one behind the other holds the answer.
+  pub answer-stored : (l a b d e : List ℕ) (k r : ℕ) → a ≡ sets l 0 (0x10 ∷ 0 ∷ 1 ∷ [])
       → b ≡ sets (set a 3 n) 4 (0x11 ∷ 0 ∷ n ∷ []) → k ≡ 7 + n → d ≡ sets b 7 (take n owners) → r ≡ k + length (offsetFields es IDS)
       → e ≡ sets d k (offsetFields es IDS)
-      → (r ≡ length (answerRecord n owners es)) × (e ≡ answerRecord n owners es ++ drop (length (answerRecord n owners es)) l)
-  answer-stored l a b d e k r area pa pb pk pd pr pe =
+      → (r ≡ length (answerRecord n owners es)) × (e ≡ sets l 0 (answerRecord n owners es))
+  answer-stored l a b d e k r pa pb pk pd pr pe =
       let t = length-take-le n owners enough in
       let run = answer-run n owners es small enough in
       let head = answerHead n in
@@ -102,5 +83,5 @@ module _ (n : ℕ) (owners : List ℕ) (es : List Entry) (small : n ≤ LONGEST)
       pe ∙ rw y (sets-then l 0 k (head ++ take n owners) (offsetFields es IDS) (omega arith))
       in (
         omega (arith, ap (λ (v : List ℕ). length v) run, length-append (take n owners) (offsetFields es IDS)),
-        z ∙ rw run (front l (answerRecord n owners es) (omega (arith, answer-length n owners es small))),
+        z ∙ ap (sets l 0) run,
       )

@@ -5,13 +5,12 @@ use mathlib.Core.Bool.{Bool, true, false, cond}
 use mathlib.Core.List.{List}
 use mathlib.Core.Path.{_≡_, refl}
 use Prim.Native.Nat.{ℕ, _+_, _^_}
-use Rattle.records.specs.declared.LimitField.{LimitField}
 use Rattle.records.specs.declared.ListedField.{ListedField}
 use Rattle.records.specs.declared.ListedField.the-variants.{Value as listed-value, Refused as listed-refused}
-use Rattle.records.specs.declared.SlotField.{SlotField}
+use Rattle.records.specs.declared.NumberField.{NumberField}
 use Rattle.numbers.specs.Numbers.{NOT-RISING, refusal}
-pub use Rattle.records.specs.Reads.{SlotRead, LimitRead, ListedForm, ListedRead}
-use Rattle.records.specs.Request.{contentAt, isField, limitField, listedAs, listedField, slotField}
+pub use Rattle.records.specs.Reads.{NumberRead, ListedForm, ListedRead}
+use Rattle.records.specs.Request.{contentAt, isField, listedAs, listedField, numberField}
 
 -- A form, then a range, tested in this order.
 tested : {A : Type 0} (Gives : A → Type 0) (form range : Bool) (a b c : A) → (form ≡ false → Gives c)
@@ -20,33 +19,22 @@ tested Gives false range a b c x y z = x refl
 tested Gives true false a b c x y z = y refl refl
 tested Gives true true a b c x y z = z refl refl
 
+module _ (s : List ℕ) (at tag size most : ℕ) where
+  -- A field that holds a number gives what its cases say.
+  pub number-read : NumberRead s at tag size most (numberField s at tag size most)
+  unfolding numberField
+  number-read =
+      tested (NumberRead s at tag size most) _ _ _ _ _ (λ p. NumberRead.wrong p) (λ p q. NumberRead.high p (leb-false _ _ q))
+      (λ p q. NumberRead.value p (leb-true _ _ q))
+
+  -- Whatever its cases say is what a field that holds a number gives.
+  pub number-is : (f : NumberField) → NumberRead s at tag size most f → numberField s at tag size most ≡ f
+  unfolding numberField
+  number-is f (NumberRead.wrong p) = rw p
+  number-is f (NumberRead.high p q) = rw (p, lt-leb _ _ q)
+  number-is f (NumberRead.value p q) = rw (p, le-leb _ _ q)
+
 module _ (s : List ℕ) (place : ℕ) where
-  -- The field of the request slot gives what its cases say.
-  pub slot-read : SlotRead s place (slotField s place)
-  unfolding slotField
-  slot-read =
-      tested (SlotRead s place) _ _ _ _ _ (λ p. SlotRead.wrong p) (λ p q. SlotRead.high p (leb-false _ _ q)) (λ p q. SlotRead.value p (leb-true _ _ q))
-
-  -- Whatever its cases say is what the field of the request slot gives.
-  pub slot-is : (f : SlotField) → SlotRead s place f → slotField s place ≡ f
-  unfolding slotField
-  slot-is f (SlotRead.wrong p) = rw p
-  slot-is f (SlotRead.high p q) = rw (p, lt-leb _ _ q)
-  slot-is f (SlotRead.value p q) = rw (p, le-leb _ _ q)
-
-  -- The field of T gives what its cases say.
-  pub limit-read : LimitRead s place (limitField s place)
-  unfolding limitField
-  limit-read =
-      tested (LimitRead s place) _ _ _ _ _ (λ p. LimitRead.wrong p) (λ p q. LimitRead.high p (leb-false _ _ q)) (λ p q. LimitRead.value p (leb-true _ _ q))
-
-  -- Whatever its cases say is what the field of T gives.
-  pub limit-is : (f : LimitField) → LimitRead s place f → limitField s place ≡ f
-  unfolding limitField
-  limit-is f (LimitRead.wrong p) = rw p
-  limit-is f (LimitRead.high p q) = rw (p, lt-leb _ _ q)
-  limit-is f (LimitRead.value p q) = rw (p, le-leb _ _ q)
-
   -- A form in range gives 5, or what it lists.
   rise : (floor next bound : ℕ) (range : Bool) → ListedForm s place next bound range → range ≡ true
       → ListedRead s place floor (listedAs s place floor bound next)

@@ -8,5 +8,6 @@ pub mod FieldStands
 pub mod RoundTrip
 pub mod NumberLaws
 pub mod NextStep
+pub mod SetsLaws
 pub mod AreaLaws
 pub mod AnswerPlaces

@@ -5,38 +5,43 @@ use mathlib.Core.List.{List}
 use mathlib.Core.Path.{_≡_, ap, _∙_, subst}
 use native.Mathlib.Omega.{arith}
 use Prim.Native.Nat.{ℕ, suc, _≤_, _<_}
-use Rattle.records.proofs.FieldLaws.{ListedForm, ListedRead, listed-read}
-use Rattle.records.proofs.ReadSteps.{ListingRead, listed-range, listing-is, listing-read}
+use Rattle.records.proofs.FieldLaws.{ListedForm, ListedRead, NumberRead, listed-read, number-read}
+use Rattle.records.proofs.ReadSteps.{ListingRead, listed-range, listing-is, listing-read, number-range}
 use Rattle.records.specs.declared.Ask.{Ask}
 use Rattle.records.specs.declared.Cursor.{Cursor}
-use Rattle.records.specs.declared.LimitField.the-variants.{Value as limit-value, Refused as limit-refused}
 use Rattle.records.specs.declared.ListedField.{ListedField}
 use Rattle.records.specs.declared.ListedField.the-variants.{Value as listed-value, Refused as listed-refused}
 use Rattle.records.specs.declared.Listing.{Listing}
+use Rattle.records.specs.declared.NumberField.the-variants.{Value as number-value, Refused as number-refused}
 use Rattle.records.specs.declared.Reading.the-variants.{Whole, Refused}
 use Rattle.numbers.specs.declared.Refusal.{Refusal}
-use Rattle.records.specs.declared.SlotField.the-variants.{Value as slot-value, Refused as slot-refused}
-use Rattle.records.specs.Request.{limitField, listedAs, listedField, noAsks, readListing, readRequest, refusedRequest, slotField, withListing}
+use Rattle.records.specs.Request.{limitField, listedAs, listedField, noAsks, numberField, readListing, readRequest, refusedRequest, slotField, withListing}
+use Rattle.slots.specs.Clocks.{coreSlot}
 use Rattle.slots.specs.declared.CoreSlot.{CoreSlot}
 use Rattle.slots.specs.Limits.{IDS}
 
--- The listing from a place on, with as many fields allowed as the record has bytes.
-unfoldable pub listingAt : List ℕ → ℕ → ℕ → List Ask → Listing
-listingAt s at floor asks = readListing (length s) s at floor asks
+-- A number that is read is at most the most.
+pub number-most : (s : List ℕ) (at tag size most : ℕ) {n : ℕ} {next : Cursor} → numberField s at tag size most ≡ number-value n next → n ≤ most
+number-most s at tag size most e = number-range s at tag size most (subst (NumberRead s at tag size most) e (number-read s at tag size most)) .0
+
+-- The listing from a place up to an end, with as many fields allowed as bytes stand before the end.
+unfoldable pub listingAt : List ℕ → ℕ → ℕ → ℕ → List Ask → Listing
+listingAt s end at floor asks = readListing end s end at floor asks
 
 -- It is the same for the same floor.
-pub listing-floor : (s : List ℕ) (at n m : ℕ) (asks : List Ask) → n ≡ m → listingAt s at n asks ≡ listingAt s at m asks
-listing-floor s at n m asks e = rw e
+pub listing-floor : (s : List ℕ) (end at n m : ℕ) (asks : List Ask) → n ≡ m → listingAt s end at n asks ≡ listingAt s end at m asks
+listing-floor s end at n m asks e = rw e
 
 -- What a field leaves of the listing: the rest with what it lists, or its refusal.
-unfoldable pub listingAfter : List ℕ → List Ask → ListedField → Listing
-listingAfter s asks (listed-value l next) = listingAt s (next .at) (suc (l .id)) (set asks (l .id) (record { period = l .period; bound = l .bound }))
-listingAfter s asks (listed-refused r) = record { reading = Refused r; asks = asks }
+unfoldable pub listingAfter : List ℕ → ℕ → List Ask → ListedField → Listing
+listingAfter s end asks (listed-value l next) =
+    listingAt s end (next .at) (suc (l .id)) (set asks (l .id) (record { period = l .period; bound = l .bound }))
+listingAfter s end asks (listed-refused r) = record { reading = Refused r; asks = asks }
 
--- A field that is read lists an id in range, and ends ahead, inside the record.
-unfoldable pub Ahead : List ℕ → ℕ → ListedField → Type 0
-Ahead s at (listed-value l next) = (l .id < IDS) × (at < next .at) × (next .at ≤ length s)
-Ahead s at (listed-refused r) = ℕ
+-- A field that is read lists an id in range, and ends ahead.
+unfoldable pub Ahead : ℕ → ListedField → Type 0
+Ahead at (listed-value l next) = (l .id < IDS) × (at < next .at)
+Ahead at (listed-refused r) = ℕ
 
 module _ (s : List ℕ) (at floor : ℕ) where
   -- Past its form and its range a field is tested for its id.
@@ -47,33 +52,33 @@ module _ (s : List ℕ) (at floor : ℕ) where
   listed-tested (ListedForm.short p q) e = rw (p, q, e)
 
   -- A field that is read is ahead.
-  pub listed-ahead : (f : ListedField) → listedField s at floor ≡ f → Ahead s at f
+  pub listed-ahead : (f : ListedField) → listedField s at floor ≡ f → Ahead at f
   unfolding Ahead
-  listed-ahead f e = subst (Ahead s at) e (by (listedField s at floor) (listed-read s at floor))
+  listed-ahead f e = subst (Ahead at) e (by (listedField s at floor) (listed-read s at floor))
     where
-      by : (f : ListedField) → ListedRead s at floor f → Ahead s at f
+      by : (f : ListedField) → ListedRead s at floor f → Ahead at f
       by f (ListedRead.wrong p q) = 0
       by f (ListedRead.high p q) = 0
       by f (ListedRead.low p q k) = 0
-      by f (ListedRead.value p q k) = let r = listed-range s at p q in (r .id-range, r .ahead, r .inside)
+      by f (ListedRead.value p q k) = let r = listed-range s at p q in (r .id-range, r .ahead)
 
-  module _ (asks : List Ask) where
-    -- At the end of the record the listing is whole.
-    pub listing-end : length s ≤ at → listingAt s at floor asks ≡ record { reading = Whole; asks = asks }
+  module _ (end : ℕ) (asks : List Ask) where
+    -- At the end the listing is whole.
+    pub listing-end : end ≤ at → listingAt s end at floor asks ≡ record { reading = Whole; asks = asks }
     unfolding listingAt
-    listing-end h = listing-is s (length s) (ListingRead.end {at = at} {floor = floor} h) (omega arith)
+    listing-end h = listing-is s end end (ListingRead.none {at = at} {floor = floor} h) (omega arith)
 
     -- Before it a field is read, and the listing is what the field leaves.
-    pub listing-step : at < length s → (f : ListedField) → listedField s at floor ≡ f → listingAt s at floor asks ≡ listingAfter s asks f
+    pub listing-step : at < end → (f : ListedField) → listedField s at floor ≡ f → listingAt s end at floor asks ≡ listingAfter s end asks f
     unfolding listingAt listingAfter
-    listing-step h f e = by (listedField s at floor) (listed-read s at floor) ∙ ap (listingAfter s asks) e
+    listing-step h f e = by (listedField s at floor) (listed-read s at floor) ∙ ap (listingAfter s end asks) e
       where
-        by : (f : ListedField) → ListedRead s at floor f → listingAt s at floor asks ≡ listingAfter s asks f
-        by f (ListedRead.wrong p q) = listing-is s (length s) (ListingRead.stop h (ListedRead.wrong p q)) (omega arith)
-        by f (ListedRead.high p q) = listing-is s (length s) (ListingRead.stop h (ListedRead.high p q)) (omega arith)
-        by f (ListedRead.low p q k) = listing-is s (length s) (ListingRead.stop h (ListedRead.low p q k)) (omega arith)
+        by : (f : ListedField) → ListedRead s at floor f → listingAt s end at floor asks ≡ listingAfter s end asks f
+        by f (ListedRead.wrong p q) = listing-is s end end (ListingRead.stop h (ListedRead.wrong p q)) (omega arith)
+        by f (ListedRead.high p q) = listing-is s end end (ListingRead.stop h (ListedRead.high p q)) (omega arith)
+        by f (ListedRead.low p q k) = listing-is s end end (ListingRead.stop h (ListedRead.low p q k)) (omega arith)
         by f (ListedRead.value p q k) =
-            listing-is s (length s) (ListingRead.more h p q k (listing-read s (length s) _ _ _ (omega arith))) (omega arith)
+            listing-is s end end (ListingRead.more h p q k (listing-read s end end _ _ _ (omega arith))) (omega arith)
 
 module _ (slot : CoreSlot) (limit : ℕ) (listing : Listing) where
   -- A whole listing makes a whole request.
@@ -89,18 +94,18 @@ module _ (slot : CoreSlot) (limit : ℕ) (listing : Listing) where
 
 module _ (s : List ℕ) where
   -- A request whose first field is refused.
-  pub request-no-slot : (r : Refusal) → slotField s 0 ≡ slot-refused r → readRequest s ≡ refusedRequest r
+  pub request-no-slot : (r : Refusal) → slotField s 0 ≡ number-refused r → readRequest s ≡ refusedRequest r
   unfolding readRequest
   request-no-slot r e = rw (e, readRequest)
 
-  module _ (slot : CoreSlot) (next : Cursor) (e : slotField s 0 ≡ slot-value slot next) where
+  module _ (slot : ℕ) (next : Cursor) (e : slotField s 0 ≡ number-value slot next) where
     -- A request whose second field is refused.
-    pub request-no-limit : (r : Refusal) → limitField s (next .at) ≡ limit-refused r → readRequest s ≡ refusedRequest r
+    pub request-no-limit : (r : Refusal) → limitField s (next .at) ≡ number-refused r → readRequest s ≡ refusedRequest r
     unfolding readRequest
     request-no-limit r f = rw (e, readRequest, f)
 
     -- A request whose first two fields are read.
-    pub request-listing : (limit : ℕ) (third : Cursor) → limitField s (next .at) ≡ limit-value limit third
-        → readRequest s ≡ withListing slot limit (readListing (length s) s (third .at) 0 noAsks)
+    pub request-listing : (limit : ℕ) (third : Cursor) → limitField s (next .at) ≡ number-value limit third
+        → readRequest s ≡ withListing (coreSlot slot) limit (readListing (length s) s (length s) (third .at) 0 noAsks)
     unfolding readRequest
     request-listing limit third f = rw (e, readRequest, f)

@@ -6,6 +6,7 @@ use native.Mathlib.Nat.{pow-suc, pow-le-pow-right}
 use native.Mathlib.Numerals.{add-one}
 use native.Mathlib.Omega.{arith}
 use Prim.Native.Nat.{ℕ, zero, suc, _+_, _*_, _^_, _<_}
+use Rattle.records.specs.Reads.{Bytes}
 use Rattle.records.specs.Request.{numberAt}
 
 module _ (s : List ℕ) (from : ℕ) where
@@ -14,7 +15,7 @@ module _ (s : List ℕ) (from : ℕ) where
   unfolding numberAt
   number-next n = rw (add-one n)
 
-  module _ (bytes : (i : ℕ) → getD s i 0 < 256) where
+  module _ (bytes : Bytes s) where
     -- A number of n bytes is below 256^n.
     number-below : (n : ℕ) → numberAt s from n < 256 ^ n
     unfolding numberAt

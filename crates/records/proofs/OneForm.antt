@@ -5,14 +5,14 @@ use lib.ListN.{drop, drop-of-length-le, length, length-set, set}
 use lib.Pow.{pow-lt, pow-pos}
 use lib.Seq.{getD-set-same, getD-set-other}
 use mathlib.Core.Bool.{Bool, true, cond}
-use mathlib.Core.List.{List, [], _∷_, _++_, append-assoc, append-nil}
+use mathlib.Core.List.{List, [], _++_, append-assoc, append-nil}
 use mathlib.Core.Option.{some}
 use mathlib.Core.Path.{_≡_, refl, sym, ap, _∙_}
 use native.Mathlib.Decide.{ℕ-discrete}
 use native.Mathlib.Omega.{arith}
 use Prim.Native.Nat.{ℕ, zero, suc, _+_, _^_, _≤_, _<_}
-use Rattle.records.proofs.FieldBytes.{bytesAt, bytes-number, field-cut}
-use Rattle.records.proofs.FieldLaws.{SlotRead, LimitRead, ListedForm}
+use Rattle.records.proofs.FieldBytes.{bytesAt, field-cut, number-cut}
+use Rattle.records.proofs.FieldLaws.{ListedForm}
 use Rattle.records.proofs.ReadLaws.{no-ask}
 use Rattle.records.proofs.ReadSteps.{ListingRead, RequestRead, listed-range, request-read}
 use Rattle.records.specs.Answer.{field}
@@ -21,7 +21,7 @@ use Rattle.records.specs.declared.Listing.{Listing}
 use Rattle.records.specs.declared.Reading.the-variants.{Whole}
 use Rattle.records.specs.declared.ReadRequest.{ReadRequest}
 pub use Rattle.records.specs.Reads.{Bytes}
-use Rattle.records.specs.Request.{askOf, contentAt, isAsked, isListing, noAsk, noAsks, numberAt, readRequest, refusedRequest}
+use Rattle.records.specs.Request.{askOf, contentAt, isAsked, isListing, noAsk, noAsks, readRequest, refusedRequest}
 use Rattle.records.specs.Written.{exponentOf, listedBytes, listingBytes, numberBytes, requestRecord}
 use Rattle.slots.proofs.Below.{and-both, some-first}
 use Rattle.slots.specs.Below.{first}
@@ -84,9 +84,9 @@ module _ (asks : List Ask) (id : ℕ) (a : Ask) where
   fresh-above f i h = getD-set-other asks id i a noAsk (omega arith) ∙ f i (omega arith)
 
 -- A listing that is read whole is written behind what was listed before.
-listing-form : (s : List ℕ) {at floor : ℕ} {asks : List Ask} {x : Listing} → ListingRead s at floor asks x → x .reading ≡ Whole
+listing-form : (s : List ℕ) {at floor : ℕ} {asks : List Ask} {x : Listing} → ListingRead s (length s) at floor asks x → x .reading ≡ Whole
     → length asks ≡ IDS → Fresh floor asks → listingBytes (x .asks) IDS ≡ listingBytes asks IDS ++ drop at s
-listing-form s (ListingRead.end {asks = asks} h) e c f = rw (drop-of-length-le s h) (sym (append-nil (listingBytes asks IDS)))
+listing-form s (ListingRead.none {asks = asks} h) e c f = rw (drop-of-length-le s h) (sym (append-nil (listingBytes asks IDS)))
 listing-form s (ListingRead.stop h r) e c f = absurd (let k : _≡_ {A = ℕ} 0 1 = cc in omega arith)
 listing-form s (ListingRead.more {at = at} {next = next} {bound = bound} {asks = asks} h t r k d) e c f =
     let id = contentAt s at 0 in
@@ -106,22 +106,16 @@ nothing-listed = refl
 
 -- A record that is read is the one form of what it says, and nothing follows.
 pub one-form : (s : List ℕ) → Bytes s → readRequest s .reading ≡ Whole → s ≡ requestRecord (readRequest s .request)
-unfolding requestRecord refusedRequest bytesAt contentAt
+unfolding requestRecord refusedRequest
 one-form s bytes = at (readRequest s) (request-read s)
   where
     at : (x : ReadRequest) → RequestRead s x → x .reading ≡ Whole → s ≡ requestRecord (x .request)
     at x (RequestRead.no-slot a) e = absurd (let k : _≡_ {A = ℕ} 0 1 = cc in omega arith)
     at x (RequestRead.no-limit a b) e = absurd (let k : _≡_ {A = ℕ} 0 1 = cc in omega arith)
     at x (RequestRead.no-listing a b c) e = absurd (let k : _≡_ {A = ℕ} 0 1 = cc in omega arith)
-    at x (RequestRead.whole (SlotRead.value p _) (LimitRead.value q _) c) e =
-        let slot = field 1 (numberBytes (numberAt s 3 8) 8) in
-        let limit = field 2 (contentAt s 11 0 ∷ []) in
+    at x (RequestRead.whole {slot = n} {limit = t} a b c) e =
+        let slot = field 1 (numberBytes n 8) in
+        let limit = field 2 (numberBytes t 1) in
         let rest = sym (listing-form s c e refl (λ i h. no-ask i) ∙ ap (λ (z : List ℕ). z ++ drop 15 s) nothing-listed) in
-        field-cut s 0 1 8 (omega arith) p ∙ ap (λ (z : List ℕ). field 1 z ++ drop 11 s) (bytes-number s bytes 3 8)
-        ∙ ap (λ (z : List ℕ). slot ++ z) (field-cut s 11 2 1 (omega arith) q) ∙ sym (append-assoc slot limit (drop 15 s))
-        ∙ ap (λ (z : List ℕ). slot ++ limit ++ z) rest
-
--- Two records that are read whole and say the same are the same.
-pub read-unique : (s t : List ℕ) → Bytes s → Bytes t → readRequest s .reading ≡ Whole → readRequest t .reading ≡ Whole
-    → readRequest s .request ≡ readRequest t .request → s ≡ t
-read-unique s t b c p q e = one-form s b p ∙ ap requestRecord e ∙ sym (one-form t c q)
+        number-cut s bytes 0 1 8 _ (omega arith) a ∙ ap (λ (z : List ℕ). slot ++ z) (number-cut s bytes 11 2 1 _ (omega arith) b)
+        ∙ sym (append-assoc slot limit (drop 15 s)) ∙ ap (λ (z : List ℕ). slot ++ limit ++ z) rest

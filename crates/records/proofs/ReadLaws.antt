@@ -7,21 +7,18 @@ use mathlib.Core.Path.{_≡_, refl, ap, _∙_}
 use native.Mathlib.Decide.{ℕ-discrete}
 use native.Mathlib.Omega.{arith}
 use Prim.Native.Nat.{ℕ, zero, suc, _≤_, _<_}
-use Rattle.records.proofs.FieldLaws.{SlotRead, LimitRead, ListedRead}
-use Rattle.records.proofs.ReadSteps.{ListingRead, RequestRead, field-inside, listed-range, request-read}
+use Rattle.records.proofs.FieldLaws.{NumberRead, ListedRead}
+use Rattle.records.proofs.ReadSteps.{ListingRead, RequestRead, listed-range, number-range, request-read}
 use Rattle.records.specs.declared.Ask.{Ask}
-use Rattle.records.specs.declared.Cursor.{Cursor}
-use Rattle.records.specs.declared.LimitField.the-variants.{Value as limit-value, Refused as limit-refused}
 use Rattle.records.specs.declared.ListedField.the-variants.{Refused as listed-refused}
 use Rattle.records.specs.declared.Listing.{Listing}
+use Rattle.records.specs.declared.NumberField.the-variants.{Refused as number-refused}
 use Rattle.records.specs.declared.Reading.the-variants.{Whole, Refused}
 use Rattle.records.specs.declared.ReadRequest.{ReadRequest}
 use Rattle.numbers.specs.declared.Refusal.{Refusal}
-use Rattle.records.specs.declared.SlotField.the-variants.{Value as slot-value, Refused as slot-refused}
 pub use Rattle.records.specs.Reads.{AskRange, AsksRange, RequestRange, RefusalRange}
 use Rattle.records.specs.Request.{askOf, contentAt, noAsk, noAsks, readRequest, refusedRequest}
-use Rattle.slots.specs.declared.CoreSlot.{CoreSlot}
-use Rattle.slots.specs.Limits.{IDS, LAST-SLOT, LONGEST}
+use Rattle.slots.specs.Limits.{IDS}
 
 -- Where nothing is asked, every id is not listed.
 pub no-ask : (i : ℕ) → askOf noAsks i ≡ noAsk
@@ -46,8 +43,8 @@ set-range asks id a h r all = record { count = length-set asks id a ∙ all .cou
 
 module _ (s : List ℕ) where
   -- A listing keeps its asks in range from field to field.
-  listing-range : {at floor : ℕ} {asks : List Ask} {x : Listing} → ListingRead s at floor asks x → AsksRange asks → AsksRange (x .asks)
-  listing-range (ListingRead.end h) r = r
+  listing-range : {end at floor : ℕ} {asks : List Ask} {x : Listing} → ListingRead s end at floor asks x → AsksRange asks → AsksRange (x .asks)
+  listing-range (ListingRead.none h) r = r
   listing-range (ListingRead.stop h f) r = r
   listing-range (ListingRead.more {at = at} {asks = asks} h f e k d) r =
       let l = listed-range s at f e in
@@ -60,32 +57,19 @@ module _ (s : List ℕ) where
   listed-refused-range at floor h (ListedRead.high f e) = omega arith
   listed-refused-range at floor h (ListedRead.low f e k) = omega arith
 
-  -- A refused field of the request slot.
-  slot-refused-range : {r : Refusal} → SlotRead s 0 (slot-refused r) → RefusalRange s r
-  slot-refused-range (SlotRead.wrong p) = omega arith
-  slot-refused-range (SlotRead.high p q) = omega arith
-
-  -- A refused field of T.
-  limit-refused-range : (at : ℕ) {r : Refusal} → at ≤ length s → LimitRead s at (limit-refused r) → RefusalRange s r
-  limit-refused-range at h (LimitRead.wrong p) = omega arith
-  limit-refused-range at h (LimitRead.high p q) = omega arith
+  -- A refused field that holds a number.
+  number-refused-range : (at tag size most : ℕ) {r : Refusal} → at ≤ length s → NumberRead s at tag size most (number-refused r) → RefusalRange s r
+  number-refused-range at tag size most h (NumberRead.wrong p) = omega arith
+  number-refused-range at tag size most h (NumberRead.high p q) = omega arith
 
   -- A refused listing.
-  listing-refused-range : {at floor : ℕ} {asks : List Ask} {x : Listing} → ListingRead s at floor asks x → (r : Refusal)
+  listing-refused-range : {end at floor : ℕ} {asks : List Ask} {x : Listing} → end ≤ length s → ListingRead s end at floor asks x → (r : Refusal)
       → x .reading ≡ Refused r → RefusalRange s r
-  listing-refused-range (ListingRead.end h) r q = absurd (let k : _≡_ {A = ℕ} 0 1 = cc in omega arith)
-  listing-refused-range (ListingRead.stop {at = at} {floor = floor} {r = t} h f) r q =
+  listing-refused-range i (ListingRead.none h) r q = absurd (let k : _≡_ {A = ℕ} 0 1 = cc in omega arith)
+  listing-refused-range i (ListingRead.stop {at = at} {floor = floor} {r = t} h f) r q =
       let k : t ≡ r = cc in
       rw (← k) (listed-refused-range at floor (omega arith) f)
-  listing-refused-range (ListingRead.more h f e k d) r q = listing-refused-range d r q
-
--- The request slot that was read is in range, and its field in the record.
-slot-range : (s : List ℕ) {slot : CoreSlot} {next : Cursor} → SlotRead s 0 (slot-value slot next) → (slot .0 ≤ LAST-SLOT) × (11 ≤ length s)
-slot-range s (SlotRead.value p q) = (q, field-inside s 0 1 8 p .0)
-
--- T that was read is in range.
-limit-range : (s : List ℕ) (at : ℕ) {limit : ℕ} {next : Cursor} → LimitRead s at (limit-value limit next) → limit ≤ LONGEST
-limit-range s at (LimitRead.value p q) = q
+  listing-refused-range i (ListingRead.more h f e k d) r q = listing-refused-range i d r q
 
 -- A request that is read whole is in range.
 pub read-in-range : (s : List ℕ) → readRequest s .reading ≡ Whole → RequestRange (readRequest s .request)
@@ -97,7 +81,7 @@ read-in-range s = at (readRequest s) (request-read s)
     at x (RequestRead.no-limit a b) e = absurd (let k : _≡_ {A = ℕ} 0 1 = cc in omega arith)
     at x (RequestRead.no-listing a b c) e = absurd (let k : _≡_ {A = ℕ} 0 1 = cc in omega arith)
     at x (RequestRead.whole a b c) e =
-        record { slot = slot-range s a .0; limit = limit-range s 11 b; asks = listing-range s c no-asks-range }
+        record { slot = number-range s 0 1 8 _ a .0; limit = number-range s 11 2 1 _ b .0; asks = listing-range s c no-asks-range }
 
 -- A request that is refused is refused with 3, 4 or 5, at a place in the record or at its end.
 pub refused-in-range : (s : List ℕ) (r : Refusal) → readRequest s .reading ≡ Refused r → RefusalRange s r
@@ -108,7 +92,7 @@ refused-in-range s r = at (readRequest s) (request-read s)
     same t e h = let k : t ≡ r = cc in rw (← k) h
 
     at : (x : ReadRequest) → RequestRead s x → x .reading ≡ Refused r → RefusalRange s r
-    at x (RequestRead.no-slot a) e = same _ e (slot-refused-range s a)
-    at x (RequestRead.no-limit a b) e = same _ e (limit-refused-range s 11 (slot-range s a .1) b)
-    at x (RequestRead.no-listing a b c) e = same _ e (listing-refused-range s c _ refl)
+    at x (RequestRead.no-slot a) e = same _ e (number-refused-range s 0 1 8 _ (omega arith) a)
+    at x (RequestRead.no-limit a b) e = same _ e (number-refused-range s 11 2 1 _ (number-range s 0 1 8 _ a .1) b)
+    at x (RequestRead.no-listing a b c) e = same _ e (listing-refused-range s (omega arith) c _ refl)
     at x (RequestRead.whole a b c) e = absurd (let k : _≡_ {A = ℕ} 0 1 = cc in omega arith)

@@ -7,22 +7,21 @@ use mathlib.Core.List.{List}
 use mathlib.Core.Path.{_≡_, refl}
 use native.Mathlib.Omega.{arith}
 use Prim.Native.Nat.{ℕ, zero, suc, _+_, _≤_, _<_}
-use Rattle.records.proofs.FieldLaws.{SlotRead, LimitRead, ListedForm, ListedRead, slot-read, slot-is, limit-read, limit-is, listed-read, listed-is}
+use Rattle.records.proofs.FieldLaws.{NumberRead, ListedForm, ListedRead, number-read, number-is, listed-read, listed-is}
 use Rattle.records.specs.declared.Ask.{Ask}
-use Rattle.records.specs.declared.LimitField.{LimitField}
-use Rattle.records.specs.declared.LimitField.the-variants.{Value as limit-value, Refused as limit-refused}
+use Rattle.records.specs.declared.Cursor.{Cursor}
 use Rattle.records.specs.declared.ListedField.{ListedField}
 use Rattle.records.specs.declared.Listing.{Listing}
+use Rattle.records.specs.declared.NumberField.{NumberField}
+use Rattle.records.specs.declared.NumberField.the-variants.{Value as number-value, Refused as number-refused}
 use Rattle.records.specs.declared.Reading.{Reading}
 use Rattle.records.specs.declared.Reading.the-variants.{Whole, Refused}
 use Rattle.records.specs.declared.ReadRequest.{ReadRequest}
-use Rattle.records.specs.declared.SlotField.{SlotField}
-use Rattle.records.specs.declared.SlotField.the-variants.{Value as slot-value, Refused as slot-refused}
-pub use Rattle.records.specs.Reads.{ListingRead, end, more, stop, RequestRead, no-slot, no-limit, no-listing, whole}
-use Rattle.records.specs.Request.{contentAt, isField, isListing, lengthAt, limitField, listedField, noAsks, readListing, readRequest, refusedRequest, slotField, withListing}
+pub use Rattle.records.specs.Reads.{ListingRead, none, more, stop, SlotRead, LimitRead, RequestRead, no-slot, no-limit, no-listing, whole}
+use Rattle.records.specs.Request.{contentAt, isField, isListing, lengthAt, limitField, listedField, noAsks, numberAt, readListing, readRequest, refusedRequest, slotField, withListing}
 use Rattle.slots.proofs.Below.{and-both}
-use Rattle.slots.specs.declared.CoreSlot.{CoreSlot}
-use Rattle.slots.specs.Limits.{IDS, LARGEST-BOUND, LARGEST-K}
+use Rattle.slots.specs.Clocks.{coreSlot}
+use Rattle.slots.specs.Limits.{IDS, LARGEST-BOUND, LARGEST-K, LAST-SLOT, LONGEST}
 use Rattle.timetable.specs.Sound.{isBound}
 
 -- A tag 3 field in range, and where it ends.
@@ -41,6 +40,11 @@ field-inside s at tag size e =
     let a = and-both _ _ e in
     let b = and-both _ _ (a .0) in
     (leb-true _ _ (b .0), eqb-true _ _ (b .1), eqb-true _ _ (a .1))
+
+-- A number that was read is at most the most, and its field ends inside the record.
+pub number-range : (s : List ℕ) (at tag size most : ℕ) {n : ℕ} {next : Cursor} → NumberRead s at tag size most (number-value n next)
+    → (n ≤ most) × (at + 3 + size ≤ length s)
+number-range s at tag size most (NumberRead.value p q) = (q, field-inside s at tag size p .0)
 
 -- A tag 3 field in range, in either form.
 pub listed-range : (s : List ℕ) (at : ℕ) {next bound : ℕ} {range : Bool} → ListedForm s at next bound range → range ≡ true
@@ -68,17 +72,17 @@ listed-range s at (ListedForm.short p q) e =
     }
 
 -- A listing is read so. (It has as many fields as bytes are left, or fewer.)
-pub listing-read : (s : List ℕ) (most at floor : ℕ) (asks : List Ask) → length s ≤ at + most
-    → ListingRead s at floor asks (readListing most s at floor asks)
+pub listing-read : (s : List ℕ) (end most at floor : ℕ) (asks : List Ask) → end ≤ at + most
+    → ListingRead s end at floor asks (readListing most s end at floor asks)
 unfolding readListing
-listing-read s zero at floor asks h = end {at = at} (omega arith)
-listing-read s (suc most) at floor asks h =
-    go (leb (length s) at) refl (listedField s at floor) refl (listed-read s at floor) (λ n f a k. listing-read s most n f a k)
+listing-read s end zero at floor asks h = none {at = at} (omega arith)
+listing-read s end (suc most) at floor asks h =
+    go (leb end at) refl (listedField s at floor) refl (listed-read s at floor) (λ n f a k. listing-read s end most n f a k)
   where
-    go : (b : Bool) → leb (length s) at ≡ b → (f : ListedField) → listedField s at floor ≡ f → ListedRead s at floor f
-        → ((next floor : ℕ) (asks : List Ask) → length s ≤ next + most → ListingRead s next floor asks (readListing most s next floor asks))
-        → ListingRead s at floor asks (readListing (suc most) s at floor asks)
-    go true e f w g ih = rw (e, readListing) (end (leb-true _ _ e))
+    go : (b : Bool) → leb end at ≡ b → (f : ListedField) → listedField s at floor ≡ f → ListedRead s at floor f
+        → ((next floor : ℕ) (asks : List Ask) → end ≤ next + most → ListingRead s end next floor asks (readListing most s end next floor asks))
+        → ListingRead s end at floor asks (readListing (suc most) s end at floor asks)
+    go true e f w g ih = rw (e, readListing) (none (leb-true _ _ e))
     go false e f w (ListedRead.wrong p q) ih = rw (e, readListing, w) (stop (leb-false _ _ e) (ListedRead.wrong p q))
     go false e f w (ListedRead.high p q) ih = rw (e, readListing, w) (stop (leb-false _ _ e) (ListedRead.high p q))
     go false e f w (ListedRead.low p q k) ih = rw (e, readListing, w) (stop (leb-false _ _ e) (ListedRead.low p q k))
@@ -88,58 +92,60 @@ listing-read s (suc most) at floor asks h =
 -- A request is read so.
 pub request-read : (s : List ℕ) → RequestRead s (readRequest s)
 unfolding readRequest withListing
-request-read s = from-slot (slotField s 0) (slot-read s 0)
+request-read s = from-slot (slotField s 0) (number-read s 0 1 8 LAST-SLOT)
   where
-    from-listing : (slot : CoreSlot) (limit : ℕ) (d : Reading) (asks : List Ask) → SlotRead s 0 (slot-value slot (record { at = 11 }))
-        → LimitRead s 11 (limit-value limit (record { at = 15 })) → ListingRead s 15 0 noAsks (record { reading = d; asks = asks })
-        → RequestRead s (withListing slot limit (record { reading = d; asks = asks }))
+    from-listing : (slot limit : ℕ) (d : Reading) (asks : List Ask) → SlotRead s 0 (number-value slot (record { at = 11 }))
+        → LimitRead s 11 (number-value limit (record { at = 15 })) → ListingRead s (length s) 15 0 noAsks (record { reading = d; asks = asks })
+        → RequestRead s (withListing (coreSlot slot) limit (record { reading = d; asks = asks }))
     from-listing slot limit Whole asks a b c = whole a b c
     from-listing slot limit (Refused r) asks a b c = no-listing a b c
 
-    from-limit : (slot : CoreSlot) (f : LimitField) → SlotRead s 0 (slot-value slot (record { at = 11 })) → LimitRead s 11 f
+    from-limit : (slot : ℕ) (f : NumberField) → SlotRead s 0 (number-value slot (record { at = 11 })) → LimitRead s 11 f
         → RequestRead s
         (elim f [
-          | limit-value limit next ↦ withListing slot limit (readListing (length s) s (next .at) 0 noAsks)
-          | limit-refused r ↦ refusedRequest r
+          | number-value limit next ↦ withListing (coreSlot slot) limit (readListing (length s) s (length s) (next .at) 0 noAsks)
+          | number-refused r ↦ refusedRequest r
         ])
-    from-limit slot f a (LimitRead.wrong p) = no-limit a (LimitRead.wrong p)
-    from-limit slot f a (LimitRead.high p q) = no-limit a (LimitRead.high p q)
-    from-limit slot f a (LimitRead.value p q) =
-        let x = readListing (length s) s 15 0 noAsks in
-        from-listing slot (contentAt s 11 0) (x .reading) (x .asks) a (LimitRead.value p q)
-        (listing-read s (length s) 15 0 noAsks (omega arith))
+    from-limit slot f a (NumberRead.wrong p) = no-limit a (NumberRead.wrong p)
+    from-limit slot f a (NumberRead.high p q) = no-limit a (NumberRead.high p q)
+    from-limit slot f a (NumberRead.value p q) =
+        let x = readListing (length s) s (length s) 15 0 noAsks in
+        from-listing slot (numberAt s 14 1) (x .reading) (x .asks) a (NumberRead.value p q)
+        (listing-read s (length s) (length s) 15 0 noAsks (omega arith))
 
-    from-slot : (f : SlotField) → SlotRead s 0 f
+    from-slot : (f : NumberField) → SlotRead s 0 f
         → RequestRead s
         (elim f [
-          | slot-value slot next ↦
+          | number-value slot next ↦
               elim (limitField s (next .at)) [
-                | limit-value limit next ↦ withListing slot limit (readListing (length s) s (next .at) 0 noAsks)
-                | limit-refused r ↦ refusedRequest r
+                | number-value limit next ↦ withListing (coreSlot slot) limit (readListing (length s) s (length s) (next .at) 0 noAsks)
+                | number-refused r ↦ refusedRequest r
               ]
-          | slot-refused r ↦ refusedRequest r
+          | number-refused r ↦ refusedRequest r
         ])
-    from-slot f (SlotRead.wrong p) = no-slot (SlotRead.wrong p)
-    from-slot f (SlotRead.high p q) = no-slot (SlotRead.high p q)
-    from-slot f (SlotRead.value p q) = from-limit _ (limitField s 11) (SlotRead.value p q) (limit-read s 11)
+    from-slot f (NumberRead.wrong p) = no-slot (NumberRead.wrong p)
+    from-slot f (NumberRead.high p q) = no-slot (NumberRead.high p q)
+    from-slot f (NumberRead.value p q) = from-limit _ (limitField s 11) (NumberRead.value p q) (number-read s 11 2 1 LONGEST)
 
 -- Reading a listing gives what its steps say.
-pub listing-is : (s : List ℕ) (most : ℕ) {at floor : ℕ} {asks : List Ask} {x : Listing} → ListingRead s at floor asks x → length s ≤ at + most
-    → readListing most s at floor asks ≡ x
+pub listing-is : (s : List ℕ) (end most : ℕ) {at floor : ℕ} {asks : List Ask} {x : Listing} → ListingRead s end at floor asks x → end ≤ at + most
+    → readListing most s end at floor asks ≡ x
 unfolding readListing
-listing-is s zero (end h) l = refl
-listing-is s zero (more h f e k d) l = absurd (omega arith)
-listing-is s zero (stop h f) l = absurd (omega arith)
-listing-is s (suc most) (end {at = at} h) l = rw (le-leb (length s) at h, readListing)
-listing-is s (suc most) (more {at = at} {floor = floor} h f e k d) l =
-    let rest = listing-is s most d (omega (arith, listed-range s at f e .ahead)) in
-    rw (lt-leb (length s) at h, readListing) (rw (listed-is s at floor _ (ListedRead.value f e k)) rest)
-listing-is s (suc most) (stop {at = at} {floor = floor} h f) l = rw (lt-leb (length s) at h, readListing) (rw (listed-is s at floor _ f))
+listing-is s end zero (none h) l = refl
+listing-is s end zero (more h f e k d) l = absurd (omega arith)
+listing-is s end zero (stop h f) l = absurd (omega arith)
+listing-is s end (suc most) (none {at = at} h) l = rw (le-leb end at h, readListing)
+listing-is s end (suc most) (more {at = at} {floor = floor} h f e k d) l =
+    let rest = listing-is s end most d (omega (arith, listed-range s at f e .ahead)) in
+    rw (lt-leb end at h, readListing) (rw (listed-is s at floor _ (ListedRead.value f e k)) rest)
+listing-is s end (suc most) (stop {at = at} {floor = floor} h f) l = rw (lt-leb end at h, readListing) (rw (listed-is s at floor _ f))
 
 -- Reading a request gives what its steps say.
 pub request-is : (s : List ℕ) (x : ReadRequest) → RequestRead s x → readRequest s ≡ x
 unfolding readRequest withListing
-request-is s x (no-slot a) = rw (slot-is s 0 _ a, readRequest)
-request-is s x (no-limit a b) = rw (slot-is s 0 _ a, readRequest, limit-is s 11 _ b)
-request-is s x (no-listing a b c) = rw (slot-is s 0 _ a, readRequest, limit-is s 11 _ b, listing-is s (length s) c (omega arith))
-request-is s x (whole a b c) = rw (slot-is s 0 _ a, readRequest, limit-is s 11 _ b, listing-is s (length s) c (omega arith))
+request-is s x (no-slot a) = rw (number-is s 0 1 8 LAST-SLOT _ a, readRequest)
+request-is s x (no-limit a b) = rw (number-is s 0 1 8 LAST-SLOT _ a, readRequest, number-is s 11 2 1 LONGEST _ b)
+request-is s x (no-listing a b c) =
+    rw (number-is s 0 1 8 LAST-SLOT _ a, readRequest, number-is s 11 2 1 LONGEST _ b, listing-is s (length s) (length s) c (omega arith))
+request-is s x (whole a b c) =
+    rw (number-is s 0 1 8 LAST-SLOT _ a, readRequest, number-is s 11 2 1 LONGEST _ b, listing-is s (length s) (length s) c (omega arith))

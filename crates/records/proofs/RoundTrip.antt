@@ -11,21 +11,33 @@ use native.Mathlib.Decide.{ℕ-discrete}
 use native.Mathlib.Nat.{add-zero}
 use native.Mathlib.Omega.{arith}
 use Prim.Native.Nat.{ℕ, zero, suc, _+_, _^_, _≤_, _<_}
-use Rattle.records.proofs.FieldLaws.{SlotRead, LimitRead, ListedForm}
-use Rattle.records.proofs.FieldStands.{after-stands, content-from, content-stands, field-stands, no-other-length, number-stands, stands-inside}
+use Rattle.records.proofs.FieldLaws.{NumberRead, ListedForm}
+use Rattle.records.proofs.FieldStands.{after-stands, content-from, content-stands, field-stands, no-other-length, number-length, number-stands, stands-inside}
 use Rattle.records.proofs.OneForm.{Fresh, exponent-power, fresh-above}
 use Rattle.records.proofs.ReadLaws.{AskRange, AsksRange, RequestRange, no-ask}
 use Rattle.records.proofs.ReadSteps.{ListingRead, RequestRead, request-is}
 use Rattle.records.specs.Answer.{field}
 use Rattle.records.specs.declared.Ask.{Ask}
+use Rattle.records.specs.declared.NumberField.the-variants.{Value as number-value}
 use Rattle.records.specs.declared.Reading.the-variants.{Whole}
 use Rattle.records.specs.declared.Request.{Request}
 use Rattle.records.specs.Request.{askOf, contentAt, isAsked, isListing, noAsk, noAsks, readRequest}
 use Rattle.records.specs.Written.{exponentOf, listedBytes, listingBytes, numberBytes, requestRecord}
-use Rattle.slots.specs.Clocks.{coreSlot}
 use Rattle.slots.specs.Limits.{IDS, LARGEST-BOUND, LARGEST-K}
 use Rattle.timetable.proofs.Ranges.{Period, period-pos}
 use Rattle.timetable.specs.Sound.{isBound}
+
+-- A written number is read back, and what follows it stands at the next place.
+number-back : (s : List ℕ) (at tag size most n : ℕ) (rest : List ℕ) → n ≤ most → n < 256 ^ size → drop at s ≡ field tag (numberBytes n size) ++ rest
+    → NumberRead s at tag size most (number-value n (record { at = at + 3 + size })) × (drop (at + 3 + size) s ≡ rest)
+number-back s at tag size most n rest h small e =
+    let content = numberBytes n size in
+    let l = number-length n size in
+    let k = number-stands s (at + 3) size n rest small (content-from s at tag content rest e) in (
+      subst (λ (x : ℕ). NumberRead s at tag size most (number-value x (record { at = at + 3 + size }))) k
+          (NumberRead.value (rw l at (field-stands s at tag content rest e)) (omega arith)),
+      after-stands s at tag content rest e (at + 3 + size) (omega arith),
+    )
 
 -- A written tag 3 field as it is read back: its form, its id, what it asks and what follows it.
 record ListedBack (s : List ℕ) (at id : ℕ) (a : Ask) (rest : List ℕ) : Type 0 where
@@ -142,20 +154,20 @@ asked a (inr r) e = r
 module _ (s : List ℕ) (all : List Ask) (range : AsksRange all) where
   -- A written listing is read back from any id on.
   listing-whole : (n at floor low : ℕ) (asks : List Ask) → floor + n ≡ IDS → low ≤ floor → ReadUpTo all floor asks
-      → drop at s ≡ listingFrom all floor n → ListingRead s at low asks (record { reading = Whole; asks = all })
+      → drop at s ≡ listingFrom all floor n → ListingRead s (length s) at low asks (record { reading = Whole; asks = all })
   unfolding listingFrom
   listing-whole zero at floor low asks m l r e =
       let same : asks ≡ all = ext-getD noAsk asks all (r .count ∙ sym (range .count)) (λ i h. r .below i (omega (arith, r .count))) in
-      subst (λ (x : List Ask). ListingRead s at low x (record { reading = Whole; asks = all })) (sym same)
-      (ListingRead.end {at = at} (omega (arith, length-drop at s, ap (λ (x : List ℕ). length x) e)))
+      subst (λ (x : List Ask). ListingRead s (length s) at low x (record { reading = Whole; asks = all })) (sym same)
+      (ListingRead.none {at = at} (omega (arith, length-drop at s, ap (λ (x : List ℕ). length x) e)))
   listing-whole (suc n) at floor low asks m l r e =
       by (isAsked (askOf all floor)) refl (λ k j x. listing-whole n k (suc floor) j x (omega arith)) e
     where
       by : (t : Bool) → isAsked (askOf all floor) ≡ t
           → ((k j : ℕ) (x : List Ask) → j ≤ suc floor → ReadUpTo all (suc floor) x → drop k s ≡ listingFrom all (suc floor) n
-          → ListingRead s k j x (record { reading = Whole; asks = all }))
+          → ListingRead s (length s) k j x (record { reading = Whole; asks = all }))
           → drop at s ≡ cond t (listedBytes floor (askOf all floor)) [] ++ listingFrom all (suc floor) n
-          → ListingRead s at low asks (record { reading = Whole; asks = all })
+          → ListingRead s (length s) at low asks (record { reading = Whole; asks = all })
       by false q rest e =
           let none = not-asked (askOf all floor) (range .each floor (omega arith)) q in
           rest at low asks (omega arith)
@@ -170,7 +182,7 @@ module _ (s : List ℕ) (all : List Ask) (range : AsksRange all) where
           let p = asked a (range .each floor (omega arith)) q in
           let w = listed-back s at floor a (listingFrom all (suc floor) n) (omega arith) (p .0) (p .1) e in
           ListingRead.more {floor = low} (w .ahead) (w .form) (w .in-range) (omega (arith, w .id-back))
-          (subst₂ (λ (i : ℕ) (b : Ask). ListingRead s (w .next) (suc i) (set asks i b) (record { reading = Whole; asks = all }))
+          (subst₂ (λ (i : ℕ) (b : Ask). ListingRead s (length s) (w .next) (suc i) (set asks i b) (record { reading = Whole; asks = all }))
           (sym (w .id-back))
           (sym (w .ask-back))
           (rest (w .next) (suc floor) (set asks floor a) (omega arith)
@@ -186,22 +198,15 @@ module _ (s : List ℕ) (all : List Ask) (range : AsksRange all) where
 
 -- A request in range, as it is written, is read back whole.
 pub round-trip : (r : Request) → RequestRange r → readRequest (requestRecord r) ≡ record { reading = Whole; request = r }
-unfolding requestRecord numberBytes listingBytes
+unfolding requestRecord listingBytes
 round-trip r range =
     let s = requestRecord r in
-    let slot = numberBytes (r .slot .0) 8 in
-    let limit = r .limit ∷ [] in
+    let slot = field 1 (numberBytes (r .slot .0) 8) in
+    let limit = field 2 (numberBytes (r .limit) 1) in
     let listing = listingBytes (r .asks) IDS in
-    let a : drop 0 s ≡ field 1 slot ++ (field 2 limit ++ listing) = append-assoc (field 1 slot) (field 2 limit) listing in
-    let b : drop 11 s ≡ field 2 limit ++ listing = after-stands s 0 1 slot _ a 11 refl in
-    let c : drop 15 s ≡ listing = after-stands s 11 2 limit listing b 15 refl in
-    let n = number-stands s 3 8 (r .slot .0) _ (omega (arith, range .slot)) (content-from s 0 1 slot _ a) in
-    let t = content-stands s 11 2 limit listing b 0 (omega arith) in
+    let a = number-back s 0 1 8 _ (r .slot .0) (limit ++ listing) (range .slot) (omega (arith, range .slot)) (append-assoc slot limit listing) in
+    let b = number-back s 11 2 1 _ (r .limit) listing (range .limit) (omega (arith, range .limit)) (a .1) in
     let start : ReadUpTo (r .asks) 0 noAsks = record { count = refl; below = λ i h. absurd (omega arith); fresh = λ i h. no-ask i } in
-    let l = listing-whole s (r .asks) (range .asks) IDS 15 0 0 noAsks refl (omega arith) start (c ∙ listing-split (r .asks) 0 IDS) in
     request-is s _
-    (RequestRead.whole
-    (SlotRead.value (field-stands s 0 1 slot _ a) (omega (arith, range .slot)))
-    (LimitRead.value (field-stands s 11 2 limit listing b) (omega (arith, range .limit)))
-    l)
-    ∙ ap₂ (λ (x y : ℕ). record { reading = Whole; request = record { slot = coreSlot x; limit = y; asks = r .asks } }) n t
+    (RequestRead.whole (a .0) (b .0)
+    (listing-whole s (r .asks) (range .asks) IDS 15 0 0 noAsks refl (omega arith) start (b .1 ∙ listing-split (r .asks) 0 IDS)))

@@ -6,37 +6,28 @@ use mathlib.Core.Logic.{_⊎_}
 use mathlib.Core.Path.{_≡_}
 use Prim.Native.Nat.{ℕ, suc, _+_, _^_, _≤_, _<_}
 use Rattle.records.specs.declared.Ask.{Ask}
-use Rattle.records.specs.declared.LimitField.{LimitField}
-use Rattle.records.specs.declared.LimitField.the-variants.{Value as limit-value, Refused as limit-refused}
 use Rattle.records.specs.declared.ListedField.{ListedField}
 use Rattle.records.specs.declared.ListedField.the-variants.{Value as listed-value, Refused as listed-refused}
 use Rattle.records.specs.declared.Listing.{Listing}
+use Rattle.records.specs.declared.NumberField.{NumberField}
+use Rattle.records.specs.declared.NumberField.the-variants.{Value as number-value, Refused as number-refused}
 use Rattle.records.specs.declared.Reading.the-variants.{Whole, Refused}
 use Rattle.records.specs.declared.ReadRequest.{ReadRequest}
 use Rattle.numbers.specs.declared.Refusal.{Refusal}
 use Rattle.records.specs.declared.Request.{Request}
-use Rattle.records.specs.declared.SlotField.{SlotField}
-use Rattle.records.specs.declared.SlotField.the-variants.{Value as slot-value, Refused as slot-refused}
 use Rattle.numbers.specs.Numbers.{BAD-FIELD, OUT-OF-RANGE, NOT-RISING}
 use Rattle.records.specs.Request.{askOf, contentAt, isField, isListing, noAsks, numberAt, refusedRequest}
 use Rattle.slots.specs.Clocks.{coreSlot}
-use Rattle.slots.specs.declared.CoreSlot.{CoreSlot}
 use Rattle.slots.specs.Limits.{IDS, LAST-SLOT, LONGEST, LARGEST-BOUND}
 use Rattle.timetable.specs.Sound.{Period, isBound}
 
--- What the field of the request slot gives: 3 for its form, then 4 for its value, then the slot and the place after it.
-pub data SlotRead (s : List ℕ) (at : ℕ) : SlotField → Type 0 where
-  wrong : isField s at 1 8 ≡ false → SlotRead s at (slot-refused (record { number = BAD-FIELD; place = at }))
-  high : isField s at 1 8 ≡ true → LAST-SLOT < numberAt s (at + 3) 8 → SlotRead s at (slot-refused (record { number = OUT-OF-RANGE; place = at }))
-  value : isField s at 1 8 ≡ true → numberAt s (at + 3) 8 ≤ LAST-SLOT
-      → SlotRead s at (slot-value (coreSlot (numberAt s (at + 3) 8)) (record { at = at + 11 }))
-
--- What the field of T gives: 3 for its form, then 4 for its value, then T and the place after it.
-pub data LimitRead (s : List ℕ) (at : ℕ) : LimitField → Type 0 where
-  wrong : isField s at 2 1 ≡ false → LimitRead s at (limit-refused (record { number = BAD-FIELD; place = at }))
-  high : isField s at 2 1 ≡ true → LONGEST < contentAt s at 0 → LimitRead s at (limit-refused (record { number = OUT-OF-RANGE; place = at }))
-  value : isField s at 2 1 ≡ true → contentAt s at 0 ≤ LONGEST
-      → LimitRead s at (limit-value (contentAt s at 0) (record { at = at + 4 }))
+-- What a field that holds a number gives: 3 for its form, then 4 for its value, then the number and the place after it.
+pub data NumberRead (s : List ℕ) (at tag size most : ℕ) : NumberField → Type 0 where
+  wrong : isField s at tag size ≡ false → NumberRead s at tag size most (number-refused (record { number = BAD-FIELD; place = at }))
+  high : isField s at tag size ≡ true → most < numberAt s (at + 3) size
+      → NumberRead s at tag size most (number-refused (record { number = OUT-OF-RANGE; place = at }))
+  value : isField s at tag size ≡ true → numberAt s (at + 3) size ≤ most
+      → NumberRead s at tag size most (number-value (numberAt s (at + 3) size) (record { at = at + 3 + size }))
 
 -- The two forms of a tag 3 field, each with the place after it, its bound and whether its values are in range.
 pub data ListedForm (s : List ℕ) (at : ℕ) : ℕ → ℕ → Bool → Type 0 where
@@ -54,27 +45,36 @@ pub data ListedRead (s : List ℕ) (at floor : ℕ) : ListedField → Type 0 whe
       → ListedRead s at floor
       (listed-value (record { id = contentAt s at 0; period = 2 ^ contentAt s at 1; bound = bound }) (record { at = next }))
 
--- How a listing is read from a place: nothing is ahead, or a field and the rest, or a field that is refused.
-pub data ListingRead (s : List ℕ) : ℕ → ℕ → List Ask → Listing → Type 0 where
-  end : {at floor : ℕ} {asks : List Ask} → length s ≤ at → ListingRead s at floor asks (record { reading = Whole; asks = asks })
-  more : {at floor next bound : ℕ} {range : Bool} {asks : List Ask} {x : Listing} → at < length s → ListedForm s at next bound range
+-- How a listing is read from a place up to an end: nothing is ahead, or a field and the rest, or a field that is refused.
+pub data ListingRead (s : List ℕ) (end : ℕ) : ℕ → ℕ → List Ask → Listing → Type 0 where
+  none : {at floor : ℕ} {asks : List Ask} → end ≤ at → ListingRead s end at floor asks (record { reading = Whole; asks = asks })
+  more : {at floor next bound : ℕ} {range : Bool} {asks : List Ask} {x : Listing} → at < end → ListedForm s at next bound range
       → range ≡ true → floor ≤ contentAt s at 0
-      → ListingRead s next (suc (contentAt s at 0)) (set asks (contentAt s at 0) (record { period = 2 ^ contentAt s at 1; bound = bound })) x
-      → ListingRead s at floor asks x
-  stop : {at floor : ℕ} {asks : List Ask} {r : Refusal} → at < length s → ListedRead s at floor (listed-refused r)
-      → ListingRead s at floor asks (record { reading = Refused r; asks = asks })
+      → ListingRead s end next (suc (contentAt s at 0)) (set asks (contentAt s at 0) (record { period = 2 ^ contentAt s at 1; bound = bound })) x
+      → ListingRead s end at floor asks x
+  stop : {at floor : ℕ} {asks : List Ask} {r : Refusal} → at < end → ListedRead s at floor (listed-refused r)
+      → ListingRead s end at floor asks (record { reading = Refused r; asks = asks })
 
--- How a request is read: the field of the slot, of T, then the listing; the first that is refused ends it.
+-- Tag 1, length 8: the request slot, at most 2^48 - 1.
+abbrev pub SlotRead : List ℕ → ℕ → NumberField → Type 0
+SlotRead s at = NumberRead s at 1 8 LAST-SLOT
+
+-- Tag 2, length 1: T, 0 to 64.
+abbrev pub LimitRead : List ℕ → ℕ → NumberField → Type 0
+LimitRead s at = NumberRead s at 2 1 LONGEST
+
+-- How a request is read: the field of the slot, of T, then the listing up to the record's end; the first that is refused ends it.
 pub data RequestRead (s : List ℕ) : ReadRequest → Type 0 where
-  no-slot : {r : Refusal} → SlotRead s 0 (slot-refused r) → RequestRead s (refusedRequest r)
-  no-limit : {slot : CoreSlot} {r : Refusal} → SlotRead s 0 (slot-value slot (record { at = 11 })) → LimitRead s 11 (limit-refused r)
+  no-slot : {r : Refusal} → SlotRead s 0 (number-refused r) → RequestRead s (refusedRequest r)
+  no-limit : {slot : ℕ} {r : Refusal} → SlotRead s 0 (number-value slot (record { at = 11 })) → LimitRead s 11 (number-refused r)
       → RequestRead s (refusedRequest r)
-  no-listing : {slot : CoreSlot} {limit : ℕ} {asks : List Ask} {r : Refusal} → SlotRead s 0 (slot-value slot (record { at = 11 }))
-      → LimitRead s 11 (limit-value limit (record { at = 15 }))
-      → ListingRead s 15 0 noAsks (record { reading = Refused r; asks = asks }) → RequestRead s (refusedRequest r)
-  whole : {slot : CoreSlot} {limit : ℕ} {asks : List Ask} → SlotRead s 0 (slot-value slot (record { at = 11 }))
-      → LimitRead s 11 (limit-value limit (record { at = 15 })) → ListingRead s 15 0 noAsks (record { reading = Whole; asks = asks })
-      → RequestRead s (record { reading = Whole; request = record { slot = slot; limit = limit; asks = asks } })
+  no-listing : {slot limit : ℕ} {asks : List Ask} {r : Refusal} → SlotRead s 0 (number-value slot (record { at = 11 }))
+      → LimitRead s 11 (number-value limit (record { at = 15 }))
+      → ListingRead s (length s) 15 0 noAsks (record { reading = Refused r; asks = asks }) → RequestRead s (refusedRequest r)
+  whole : {slot limit : ℕ} {asks : List Ask} → SlotRead s 0 (number-value slot (record { at = 11 }))
+      → LimitRead s 11 (number-value limit (record { at = 15 }))
+      → ListingRead s (length s) 15 0 noAsks (record { reading = Whole; asks = asks })
+      → RequestRead s (record { reading = Whole; request = record { slot = coreSlot slot; limit = limit; asks = asks } })
 
 -- An id is not listed, or its period is 2^k and its bound at most 8, which is 0 where its field was short.
 abbrev pub AskRange : Ask → Type 0

@@ -5,16 +5,14 @@ use mathlib.Core.Bool.{Bool, true, false, cond, _&&_}
 use mathlib.Core.List.{List}
 use Prim.Native.Nat.{ℕ, zero, suc, _+_, _*_, _^_}
 use Rattle.records.specs.declared.Ask.{Ask}
-use Rattle.records.specs.declared.LimitField.{LimitField}
-use Rattle.records.specs.declared.LimitField.the-variants.{Value as limit-value, Refused as limit-refused}
 use Rattle.records.specs.declared.ListedField.{ListedField}
 use Rattle.records.specs.declared.ListedField.the-variants.{Value as listed-value, Refused as listed-refused}
 use Rattle.records.specs.declared.Listing.{Listing}
+use Rattle.records.specs.declared.NumberField.{NumberField}
+use Rattle.records.specs.declared.NumberField.the-variants.{Value as number-value, Refused as number-refused}
 use Rattle.records.specs.declared.Reading.the-variants.{Whole, Refused}
 use Rattle.records.specs.declared.ReadRequest.{ReadRequest}
 use Rattle.numbers.specs.declared.Refusal.{Refusal}
-use Rattle.records.specs.declared.SlotField.{SlotField}
-use Rattle.records.specs.declared.SlotField.the-variants.{Value as slot-value, Refused as slot-refused}
 use Rattle.numbers.specs.Numbers.{BAD-FIELD, OUT-OF-RANGE, NOT-RISING, refusal}
 use Rattle.slots.specs.Clocks.{coreSlot}
 use Rattle.slots.specs.declared.CoreSlot.{CoreSlot}
@@ -39,23 +37,14 @@ unfoldable pub isField : List ℕ → ℕ → ℕ → ℕ → Bool
 isField s at tag size =
     leb (at + 3 + size) (length s) && eqb (getD s at 0) tag && eqb (lengthAt s at) size
 
--- Tag 1, length 8: the request slot, at most 2^48 - 1.
-unfoldable pub slotField : List ℕ → ℕ → SlotField
-slotField s at =
-    cond (isField s at 1 8)
-    (cond (leb (numberAt s (at + 3) 8) LAST-SLOT)
-    (slot-value (coreSlot (numberAt s (at + 3) 8)) (record { at = at + 11 }))
-    (slot-refused (refusal OUT-OF-RANGE at)))
-    (slot-refused (refusal BAD-FIELD at))
-
--- Tag 2, length 1: T, 0 to 64.
-unfoldable pub limitField : List ℕ → ℕ → LimitField
-limitField s at =
-    cond (isField s at 2 1)
-    (cond (leb (contentAt s at 0) LONGEST)
-    (limit-value (contentAt s at 0) (record { at = at + 4 }))
-    (limit-refused (refusal OUT-OF-RANGE at)))
-    (limit-refused (refusal BAD-FIELD at))
+-- A field of this tag and length that holds a number, at most `most`.
+unfoldable pub numberField : List ℕ → ℕ → ℕ → ℕ → ℕ → NumberField
+numberField s at tag size most =
+    cond (isField s at tag size)
+    (cond (leb (numberAt s (at + 3) size) most)
+    (number-value (numberAt s (at + 3) size) (record { at = at + 3 + size }))
+    (number-refused (refusal OUT-OF-RANGE at)))
+    (number-refused (refusal BAD-FIELD at))
 
 -- An id from 0 to 31 and a k from 0 to 8.
 unfoldable pub isListing : List ℕ → ℕ → Bool
@@ -95,16 +84,16 @@ isAsked a = ltb 0 (a .period)
 abbrev pub noAsks : List Ask
 noAsks = replicate IDS noAsk
 
--- The tag 3 fields from a place to the end of the record, ids from `floor` on. (At most `most` of them: as many as the record has bytes are enough.)
-unfoldable pub readListing : ℕ → List ℕ → ℕ → ℕ → List Ask → Listing
-readListing zero s at floor asks = record { reading = Whole; asks = asks }
-readListing (suc most) s at floor asks =
-    elim (leb (length s) at) [
+-- The tag 3 fields from a place up to an end, ids from `floor` on. (At most `most` of them: as many as bytes stand before the end are enough.)
+unfoldable pub readListing : ℕ → List ℕ → ℕ → ℕ → ℕ → List Ask → Listing
+readListing zero s end at floor asks = record { reading = Whole; asks = asks }
+readListing (suc most) s end at floor asks =
+    elim (leb end at) [
       | true ↦ record { reading = Whole; asks = asks }
       | false ↦
           elim (listedField s at floor) [
             | listed-value l next ↦
-                readListing most s (next .at) (suc (l .id)) (set asks (l .id) (record { period = l .period; bound = l .bound }))
+                readListing most s end (next .at) (suc (l .id)) (set asks (l .id) (record { period = l .period; bound = l .bound }))
             | listed-refused r ↦ record { reading = Refused r; asks = asks }
           ]
     ]
@@ -121,14 +110,22 @@ withListing slot limit listing =
       | Refused r ↦ refusedRequest r
     ]
 
--- Request, in this order, nothing after: the request slot, T, the tag 3 fields.
+-- Tag 1, length 8: the request slot, at most 2^48 - 1.
+abbrev pub slotField : List ℕ → ℕ → NumberField
+slotField s at = numberField s at 1 8 LAST-SLOT
+
+-- Tag 2, length 1: T, 0 to 64.
+abbrev pub limitField : List ℕ → ℕ → NumberField
+limitField s at = numberField s at 2 1 LONGEST
+
+-- Request, in this order, nothing after: the request slot, T, the tag 3 fields up to the record's end.
 unfoldable pub readRequest : List ℕ → ReadRequest
 readRequest s =
     elim (slotField s 0) [
-      | slot-value slot next ↦
+      | number-value slot next ↦
           elim (limitField s (next .at)) [
-            | limit-value limit next ↦ withListing slot limit (readListing (length s) s (next .at) 0 noAsks)
-            | limit-refused r ↦ refusedRequest r
+            | number-value limit next ↦ withListing (coreSlot slot) limit (readListing (length s) s (length s) (next .at) 0 noAsks)
+            | number-refused r ↦ refusedRequest r
           ]
-      | slot-refused r ↦ refusedRequest r
+      | number-refused r ↦ refusedRequest r
     ]

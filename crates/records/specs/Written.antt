@@ -34,4 +34,4 @@ listingBytes asks (suc n) = listingBytes asks n ++ cond (isAsked (askOf asks n))
 
 -- Request, in this order, nothing after: tag 1, length 8, request slot; tag 2, length 1, T; then the tag 3 fields.
 unfoldable pub requestRecord : Request → List ℕ
-requestRecord r = field 1 (numberBytes (r .slot .0) 8) ++ field 2 (r .limit ∷ []) ++ listingBytes (r .asks) IDS
+requestRecord r = field 1 (numberBytes (r .slot .0) 8) ++ field 2 (numberBytes (r .limit) 1) ++ listingBytes (r .asks) IDS

@@ -11,15 +11,9 @@ pub struct Cursor {
     pub at: usize,
 }
 
-// The request slot with the next cursor, or the refusal.
-pub enum SlotField {
-    Value(CoreSlot, Cursor),
-    Refused(Refusal),
-}
-
-// T with the next cursor, or the refusal.
-pub enum LimitField {
-    Value(u8, Cursor),
+// A number with the next cursor, or the refusal.
+pub enum NumberField {
+    Value(u64, Cursor),
     Refused(Refusal),
 }
 

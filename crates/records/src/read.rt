@@ -3,18 +3,17 @@ ghost use lib.ListN.{length};
 ghost use mathlib.Core.Path.{_≡_};
 ghost use Prim.Native.Nat.{_+_, _^_, _≤_, _<_};
 ghost use Rattle.numbers.specs.declared.Refusal.{Refusal};
-ghost use Rattle.records.specs.Request.{contentAt, isField, isListing, limitField, listedAs, listedField, noAsks, numberAt, readListing, readRequest, refusedRequest, slotField, withListing};
+ghost use Rattle.records.specs.Request.{contentAt, isField, isListing, listedAs, listedField, noAsks, numberAt, numberField, readListing, readRequest, refusedRequest, withListing};
 ghost use Rattle.slots.specs.Limits.{LARGEST-K};
 use super::Ask;
 use super::Cursor;
-use super::LimitField;
 use super::Listed;
 use super::ListedField;
 use super::Listing;
+use super::NumberField;
 use super::ReadRequest;
 use super::Reading;
 use super::Request;
-use super::SlotField;
 use numbers::Refusal;
 use slots::CoreSlot;
 use timetable::Timetable;
@@ -32,49 +31,38 @@ const LISTED_TAG: u8 = 3;
 pub fn read_request(s: &[u8]) -> ReadRequest
     ensures { λ r. ⌜ r ≡ readRequest (now (s .entry)) ⌝ }
 {
-    let first = slot_field(s, Cursor { at: 0 });
-    let SlotField::Value(slot, second) = first else {
+    // Tag 1, length 8: the request slot, at most 2^48 - 1.
+    let first = number_field(s, Cursor { at: 0 }, SLOT_TAG, 8, Timetable::LAST_SLOT);
+    let NumberField::Value(slot, second) = first else {
         return refused_request(first.refusal());
     };
-    let due = limit_field(s, second);
-    let LimitField::Value(limit, third) = due else {
+    // Tag 2, length 1: T, 0 to 64.
+    let due = number_field(s, second, LIMIT_TAG, 1, Timetable::LONGEST as u64);
+    let NumberField::Value(limit, third) = due else {
         return refused_request(due.refusal());
     };
-    with_listing(slot, limit, read_listing(s, third))
+    with_listing(CoreSlot(slot), limit as u8, read_listing(s, s.len(), third))
 }
 
-// Reads the field of the request slot.
-pub fn slot_field(s: &[u8], c: Cursor) -> SlotField
-    ensures { λ r. ⌜ r ≡ slotField (now (s .entry)) (c .at) ⌝ }
+// Reads a field of this tag and length that holds a number, at most `most`.
+fn number_field(s: &[u8], c: Cursor, tag: u8, size: u8, most: u64) -> NumberField
+    requires { ⌜ size ≤ 8 ⌝ }
+    ensures { λ r. ⌜ r ≡ numberField (now (s .entry)) (c .at) tag size most ⌝ }
 {
     let at = c.at;
-    if !is_field(s, at, SLOT_TAG, 8) {
-        return SlotField::Refused(Refusal::of(Refusal::BAD_FIELD, at));
+    if !is_field(s, at, tag, size) {
+        return NumberField::Refused(Refusal::of(Refusal::BAD_FIELD, at));
     }
-    let slot = number_at(s, at + 3, 8);
-    if Timetable::LAST_SLOT < slot {
-        return SlotField::Refused(Refusal::of(Refusal::OUT_OF_RANGE, at));
+    let number = number_at(s, at + 3, size as usize);
+    if most < number {
+        return NumberField::Refused(Refusal::of(Refusal::OUT_OF_RANGE, at));
     }
-    SlotField::Value(CoreSlot(slot), Cursor { at: at + 11 })
-}
-
-// Reads the field of T.
-pub fn limit_field(s: &[u8], c: Cursor) -> LimitField
-    ensures { λ r. ⌜ r ≡ limitField (now (s .entry)) (c .at) ⌝ }
-{
-    let at = c.at;
-    if !is_field(s, at, LIMIT_TAG, 1) {
-        return LimitField::Refused(Refusal::of(Refusal::BAD_FIELD, at));
-    }
-    let limit = content_at(s, at, 0);
-    if Timetable::LONGEST < (limit as usize) {
-        return LimitField::Refused(Refusal::of(Refusal::OUT_OF_RANGE, at));
-    }
-    LimitField::Value(limit, Cursor { at: at + 4 })
+    let next = at + 3 + (size as usize);
+    NumberField::Value(number, Cursor { at: next })
 }
 
 // Reads the field of a listed partition, whose id is to be `floor` or above.
-pub fn listed_field(s: &[u8], c: Cursor, floor: u8) -> ListedField
+fn listed_field(s: &[u8], c: Cursor, floor: u8) -> ListedField
     ensures { λ r. ⌜ r ≡ listedField (now (s .entry)) (c .at) floor ⌝ }
 {
     let at = c.at;
@@ -97,14 +85,14 @@ pub fn listed_field(s: &[u8], c: Cursor, floor: u8) -> ListedField
     listed_as(s, at, floor, 0, at + 5)
 }
 
-// Reads the fields of the listed partitions up to the end of the record.
-fn read_listing(s: &[u8], c: Cursor) -> Listing
-    ensures { λ r. ⌜ r ≡ readListing (length (now (s .entry))) (now (s .entry)) (c .at) 0 noAsks ⌝ }
+// Reads the fields of the listed partitions from a place up to an end.
+fn read_listing(s: &[u8], end: usize, c: Cursor) -> Listing
+    ensures { λ r. ⌜ r ≡ readListing end (now (s .entry)) end (c .at) 0 noAsks ⌝ }
 {
     let mut asks = no_asks();
     let mut at = c.at;
     let mut floor: u8 = 0;
-    while at < s.len() {
+    while at < end {
         let field = listed_field(s, Cursor { at }, floor);
         let ListedField::Value(listed, next) = field else {
             let refusal = field.refusal();
@@ -167,26 +155,14 @@ fn no_asks() -> [Ask; Timetable::IDS]
     }; Timetable::IDS]
 }
 
-impl SlotField {
+impl NumberField {
     // Why the field was refused.
     fn refusal(self) -> Refusal
-        ensures { λ r. ⌜ ((x : Refusal) → self ≡ SlotField.Refused x → r ≡ x) ⌝ }
+        ensures { λ r. ⌜ ((x : Refusal) → self ≡ NumberField.Refused x → r ≡ x) ⌝ }
     {
         match self {
-            SlotField::Refused(r) => r,
-            SlotField::Value(_, _) => Refusal::of(Refusal::ACCEPTED, 0),
-        }
-    }
-}
-
-impl LimitField {
-    // Why the field was refused.
-    fn refusal(self) -> Refusal
-        ensures { λ r. ⌜ ((x : Refusal) → self ≡ LimitField.Refused x → r ≡ x) ⌝ }
-    {
-        match self {
-            LimitField::Refused(r) => r,
-            LimitField::Value(_, _) => Refusal::of(Refusal::ACCEPTED, 0),
+            NumberField::Refused(r) => r,
+            NumberField::Value(_, _) => Refusal::of(Refusal::ACCEPTED, 0),
         }
     }
 }

@@ -1,7 +1,7 @@
 // Writing an answer into an area that is lent. Nothing here is refused: the area is long enough for any answer.
-ghost use lib.ListN.{drop, length, take};
+ghost use lib.ListN.{length, take};
 ghost use lib.Seq.{sets};
-ghost use mathlib.Core.List.{[], _∷_, _++_};
+ghost use mathlib.Core.List.{[], _∷_};
 ghost use mathlib.Core.Path.{_≡_};
 ghost use Prim.Native.Nat.{_+_, _*_, _≤_};
 ghost use Rattle.records.specs.Answer.{answerRecord, field, offsetFields};
@@ -26,7 +26,7 @@ pub fn write_answer(
     entries: [Entry; Timetable::IDS],
 ) -> usize
     requires { ⌜ (AREA ≤ length (now area)) × (size ≤ LONGEST) ⌝ }
-    ensures { λ r. ⌜ (r ≡ length (answerRecord size owners entries)) × (now (area .exit) ≡ answerRecord size owners entries ++ drop (length (answerRecord size owners entries)) (now (area .entry))) ⌝ }
+    ensures { λ r. ⌜ (r ≡ length (answerRecord size owners entries)) × (now (area .exit) ≡ sets (now (area .entry)) 0 (answerRecord size owners entries)) ⌝ }
 {
     put_head(area, 0, LENGTH_TAG, 1);
     area[3] = size;

@@ -1,17 +1,17 @@
 -- `frames::keep_rest` meets its contract. The invariant: the first i bytes from `from` on stand at the front, and no other byte has changed, so the byte that a turn reads is still the one that stood there. The measure is what is left to move.
 -- Assumes nothing.
-use lib.ListN.{drop, getD, length, length-set, set}
-use lib.Seq.{paste-zero}
+use lib.ListN.{drop, getD, length, length-set, set, take}
+use lib.Seq.{sets}
 use mathlib.Core.List.{List}
 use mathlib.Core.Path.{_≡_, refl, ap, _∙_}
 use native.Mathlib.Omega.{arith}
 use Prim.Native.Nat.{ℕ, _+_, _-_, _≤_, zero-le}
-use Rattle.frames.proofs.FrameLaws.{moved, moved-more, moved-over}
+use Rattle.frames.proofs.FrameLaws.{moved-more}
 use Rattle.frames.proofs.keep_rest.Statement.{statement}
 use Rattle.frames.proofs.keep_rest.Tie as tie
 
 abbrev Inv-loop : tie.InvT-loop
-Inv-loop buf₀ from to count i₀ buf i = (i ≤ count) × (buf ≡ moved buf₀ from i) × (length buf ≡ length buf₀)
+Inv-loop buf₀ from to count i₀ buf i = (i ≤ count) × (buf ≡ sets buf₀ 0 (take i (drop from buf₀))) × (length buf ≡ length buf₀)
 
 abbrev μ-loop : tie.MeasureT-loop
 μ-loop buf₀ from to count i₀ buf i = count - i
@@ -20,7 +20,7 @@ sub-count : tie.Need-sub-count Inv-loop μ-loop
 sub-count c = omega arith
 
 loop-holds : tie.Need-loop-holds Inv-loop μ-loop
-loop-holds c = let a = c .args in (zero-le, paste-zero (a .buf .now) 0 (drop (a .from) (a .buf .now)), refl)
+loop-holds c = (zero-le, refl, refl)
 
 add-buf : tie.Need-add-buf Inv-loop μ-loop
 add-buf c = omega arith
@@ -52,11 +52,8 @@ same-length c = c .before .loop .inv .2
 returns : tie.Need-returns Inv-loop μ-loop
 returns c =
     let a = c .before .before .args in
-    let q = c .before .loop in
-    let e : q .i ≡ a .to - a .from = omega arith in (
-      refl,
-      rw (q .inv .1, e) (moved-over (a .buf .now) (a .from) (a .to - a .from) (omega arith)),
-    )
+    let e : c .before .loop .i ≡ a .to - a .from = omega arith in
+    (refl, rw e at (c .before .loop .inv .1))
 
 pub keep-rest-spec : {M : Type 1} → statement M
 keep-rest-spec =

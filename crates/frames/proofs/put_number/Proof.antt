@@ -42,7 +42,7 @@ returns c =
     let d = e .before .before .decimal in
     let s = e .before .before .before .before .before in
     let k = few e in (
-      put-number (s .args .out .now) (s .args .at) (s .args .n) (d .result) (s .args .last) _ (f .last .0) (f .result) (s .pre) (few e) (d .ensures .1 .0) (d .ensures .1 .1) (d .ensures .0 .1) (f .ensures) (f .kept .0),
+      put-number (s .args .out .now) (s .args .at) (s .args .n) (d .result) (s .args .last) _ (f .last .0) (f .result) (few e) (d .ensures .1 .0) (d .ensures .1 .1) (f .ensures),
       omega (arith, f .ensures .end),
     )
 

@@ -32,7 +32,7 @@ returns c =
     let c2 = c3 .before .before .before .before in
     let c1 = c2 .before .before .before .before in
     let a = c1 .before .before .before .args in (
-      put-line (a .ordinal) (a .number) (a .place) (a .tries) (a .size) (a .out .now) (a .at) (omega (arith, c1 .before .before .before .pre))
+      put-line (a .ordinal) (a .number) (a .place) (a .tries) (a .size) (a .out .now) (a .at)
           _ _ (c1 .put-number .ensures .0) _ _ (c2 .put-number2 .ensures .0) _ _ (c3 .put-number3 .ensures .0) _ _ (c4 .put-number4 .ensures .0) _ _ (c5 .put-number5 .ensures .0),
       omega (arith, c1 .put-number .ensures .1, c2 .put-number2 .ensures .1, c3 .put-number3 .ensures .1, c4 .put-number4 .ensures .1, c5 .put-number5 .ensures .1),
     )

@@ -1,6 +1,5 @@
 -- The invariant: the listing from the first place is the listing from `at` on, with ids from `floor` and what was read so far. Assumes nothing.
 use borrow.Author.Needs.{needs}
-use lib.ListN.{length}
 use mathlib.Core.Path.{_≡_, sym, ap, _∙_}
 use native.Mathlib.Omega.{arith}
 use Prim.Native.Nat.{_-_}
@@ -13,14 +12,14 @@ use Rattle.numbers.specs.declared.Refusal.{Refusal}
 use Rattle.records.specs.Request.{noAsks}
 
 abbrev Inv-loop : tie.InvT-loop
-Inv-loop s asks₀ at₀ floor₀ asks at floor = listingAt s at₀ 0 noAsks ≡ listingAt s at floor asks
+Inv-loop s end asks₀ at₀ floor₀ asks at floor = listingAt s end at₀ 0 noAsks ≡ listingAt s end at floor asks
 
 abbrev μ-loop : tie.MeasureT-loop
-μ-loop s asks₀ at₀ floor₀ asks at floor = length s - at
+μ-loop s end asks₀ at₀ floor₀ asks at floor = end - at
 
 -- A field that was read is ahead, and its id is in range.
 ahead : (c : tie.After-known-told Inv-loop μ-loop)
-    → Ahead (c .before .before .before .before .before .before .before .before .args .s .now) (c .before .before .before .before .before .loop .at)
+    → Ahead (c .before .before .before .before .before .loop .at)
     (Value (c .before .field .given .0 .0) (c .before .field .given .0 .1 .0))
 ahead c = listed-ahead _ _ _ _ (sym (c .before .before .before .listed-field .ensures) ∙ c .before .field .given .1)
 
@@ -48,7 +47,7 @@ returns c =
     let l = c .before .before .before .before .before .loop in
     sym
     (l .inv
-    ∙ listing-step _ _ _ (l .asks) (c .before .before .before .before .loop-test .taken) _
+    ∙ listing-step _ _ _ _ (l .asks) (c .before .before .before .before .loop-test .taken) _
     (sym (c .before .before .before .listed-field .ensures) ∙ c .before .enum-told .given .1)
     ∙ ap (λ (r : Refusal). record { reading = Refused r; asks = l .asks }) (sym (c .refusal .ensures _ (c .before .enum-told .given .1))))
 
@@ -70,22 +69,22 @@ add-floor c = omega (arith, ahead c .0)
 
 loop-less : tie.Need-loop-less Inv-loop μ-loop
 unfolding Ahead
-loop-less c = omega (arith, ahead c .1, ahead c .2)
+loop-less c = omega (arith, ahead c .1)
 
 loop-again : tie.Need-loop-again Inv-loop μ-loop
 unfolding listingAfter
 loop-again c =
     let l = c .before .before .before .before .before .loop in
     l .inv
-    ∙ listing-step _ _ _ (l .asks) (c .before .before .before .before .loop-test .taken) _
+    ∙ listing-step _ _ _ _ (l .asks) (c .before .before .before .before .loop-test .taken) _
     (sym (c .before .before .before .listed-field .ensures) ∙ c .before .field .given .1)
-    ∙ listing-floor _ _ _ _ _ (omega arith)
+    ∙ listing-floor _ _ _ _ _ _ (omega arith)
 
 returns-2 : tie.Need-returns-2 Inv-loop μ-loop
 unfolding listingAt
 returns-2 c =
     let l = c .before .loop in
-    sym (l .inv ∙ listing-end (c .before .before .before .before .args .s .now) (l .at) (l .floor) (l .asks) (c .loop-test .left))
+    sym (l .inv ∙ listing-end (c .before .before .before .before .args .s .now) (l .at) (l .floor) _ (l .asks) (c .loop-test .left))
 
 pub read-listing-spec : {M : Type 1} → statement M
 read-listing-spec =

@@ -4,7 +4,7 @@ use lib.Seq.{sets}
 use mathlib.Core.Path.{_≡_, refl}
 use native.Mathlib.Omega.{arith}
 use Prim.Native.Nat.{_-_, _≤_}
-use Rattle.records.proofs.AreaLaws.{owner-next}
+use Rattle.records.proofs.SetsLaws.{sets-next}
 use Rattle.records.proofs.write.put_owners.Statement.{statement}
 use Rattle.records.proofs.write.put_owners.Tie as tie
 
@@ -38,7 +38,7 @@ loop-again c =
     let l = c .before .loop in (
       omega arith,
       simp length-set (l .inv .1),
-      rw (l .inv .2) (owner-next (a .area .now) (a .t4) (a .from) (l .n) (omega arith)),
+      rw (l .inv .2) (sets-next (a .area .now) (a .t4) (a .from) (l .n) (omega arith)),
     )
 
 add-result : tie.Need-add-result Inv-loop μ-loop

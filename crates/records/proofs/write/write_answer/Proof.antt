@@ -42,7 +42,6 @@ returns c =
     let first = head .before .before .before .before in
     let start = first .before .before .before in
     answer-stored (start .args .size) (start .args .owners) (start .args .entries) (omega (arith, start .pre)) (omega (arith, start .pre, start .good)) _ _ _ _ _ _ _
-    (omega (arith, start .pre))
     (first .put-head .ensures)
     (head .put-head2 .ensures)
     (owners .put-owners .ensures .0)

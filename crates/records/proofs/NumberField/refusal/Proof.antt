@@ -1,7 +1,7 @@
 -- A refused field holds the refusal that is given. Assumes nothing.
 use borrow.Author.Needs.{needs}
-use Rattle.records.proofs.LimitField.refusal.Statement.{statement}
-use Rattle.records.proofs.LimitField.refusal.Tie as tie
+use Rattle.records.proofs.NumberField.refusal.Statement.{statement}
+use Rattle.records.proofs.NumberField.refusal.Tie as tie
 
 enum-known-self : tie.Need-enum-known-self
 enum-known-self c = search needs
