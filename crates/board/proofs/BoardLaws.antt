@@ -7,7 +7,8 @@ use mathlib.Core.Path.{_≡_, refl, sym, ap, _∙_}
 use native.Mathlib.Omega.{arith}
 use Prim.Native.Nat.{ℕ}
 use Rattle.board.specs.Image.{Changed, IMAGE, OwnerTold, StandingTold, areaAfterImage, emptyImage, emptyNumber, imageAfter, imageAnswer, imageOf, imageOwner, imageStanding, timetableAt}
-use Rattle.change.specs.Change.{Answer, answer, areaAfter, outcome, refuse, written}
+use Rattle.change.specs.Change.{answer, areaAfter, outcome, recordOf, refuse, written}
+use Rattle.change.specs.declared.Answer.{Answer}
 use Rattle.change.specs.declared.Outcome.{Outcome}
 use Rattle.change.specs.declared.OwnerAnswer.{OwnerAnswer}
 use Rattle.change.specs.declared.StandingAnswer.{StandingAnswer}
@@ -19,13 +20,13 @@ use Rattle.timetable.specs.Timetable.{emptyTimetable}
 
 -- What a request gets, told: with its answer, and the image left.
 told : (image request area after : List ℕ) (a : Answer) → imageAnswer image request (length area) ≡ a → after ≡ imageAfter image request (length area)
-    → Changed image request area (a .number) (a .place) (a .tries) (length (a .bytes)) after (written a area)
+    → Changed image request area (a .number) (a .place) (a .tries) (length (recordOf a)) after (written a area)
 unfolding areaAfterImage
 told image request area after a e i = record {
   number-told = sym (ap (λ (x : Answer). x .number) e);
   place-told = sym (ap (λ (x : Answer). x .place) e);
   tries-told = sym (ap (λ (x : Answer). x .tries) e);
-  written-told = sym (ap (λ (x : Answer). length (x .bytes)) e);
+  written-told = sym (ap (λ (x : Answer). length (recordOf x)) e);
   image-after = i;
   area-after = sym (ap (λ (x : Answer). written x area) e);
 }
@@ -48,7 +49,7 @@ module _ (image request : List ℕ) (area : ℕ) where
   answer-held e = rw (eq-eqb _ _ e)
 
   -- Bytes that are no image get the refusal of a timetable that is not sound.
-  pub answer-no-image : length image ≢ IMAGE → imageAnswer image request area ≡ refuse (timetableAt image) (refusal NOT-SOUND 0)
+  answer-no-image : length image ≢ IMAGE → imageAnswer image request area ≡ refuse (timetableAt image) (refusal NOT-SOUND 0)
   unfolding imageAnswer
   answer-no-image n = rw (ne-eqb _ _ n)
 
@@ -59,6 +60,7 @@ module _ (image : List ℕ) (n : length image ≢ IMAGE) where
   empty-refused = rw (ne-eqb _ _ n) (refl, refl)
 
   pub change-no-image : (request area : List ℕ) → Changed image request area NOT-SOUND 0 0 0 image area
+  unfolding recordOf
   change-no-image request area =
       let e = answer-no-image image request (length area) n in
       told image request area image (refuse (timetableAt image) (refusal NOT-SOUND 0)) e

@@ -7,9 +7,8 @@ use native.Mathlib.Nat.{zero-add}
 use native.Mathlib.Numerals.{add-one}
 use native.Mathlib.Omega.{arith}
 use Prim.Native.Nat.{ℕ, _+_, _*_, _<_}
-use Rattle.board.proofs.StoreLaws.{sets-all}
 use Rattle.board.specs.Image.{IMAGE, entriesAt, entryAt, timetableAt}
-use Rattle.records.proofs.AreaLaws.{owner-next}
+use Rattle.records.proofs.SetsLaws.{sets-all, sets-next}
 use Rattle.records.specs.Request.{numberAt}
 use Rattle.slots.specs.Clocks.{coreSlot}
 use Rattle.slots.specs.Limits.{IDS, LONGEST}
@@ -28,7 +27,7 @@ pub owners-next : (image owners : List ℕ) (n : ℕ) → length image ≡ IMAGE
 owners-next image owners n len h e =
     ap (λ (x : List ℕ). set x n (getD image (9 + n) 0)) e
     ∙ ap (λ (x : ℕ). set (sets (replicate LONGEST 0) 0 (take n (drop 9 image))) n x) (sym (getD-drop 9 image n 0))
-    ∙ rw zero-add at (owner-next (replicate LONGEST 0) (drop 9 image) 0 n (omega (arith, length-drop 9 image)))
+    ∙ rw zero-add at (sets-next (replicate LONGEST 0) (drop 9 image) 0 n (omega (arith, length-drop 9 image)))
 
 -- All owners.
 pub owners-all : (image owners : List ℕ) (n : ℕ) → length image ≡ IMAGE → n ≡ LONGEST

@@ -14,7 +14,8 @@ use Rattle.board.specs.Image.{Fits, imageAfter, imageAnswer, imageOf, ke
 use Rattle.change.proofs.Answers.{Gets, accepted, accepted-continues, gets, no-length, no-slot, refused}
 use Rattle.change.proofs.Histories.{sent-accepted, sent-refused}
 use Rattle.change.proofs.Start.{start-fit}
-use Rattle.change.specs.Change.{Answer, answer, startPlan}
+use Rattle.change.specs.Change.{answer, startPlan}
+use Rattle.change.specs.declared.Answer.{Answer}
 use Rattle.change.specs.Controller.{Sent, historyOf}
 use Rattle.numbers.specs.Numbers.{ACCEPTED}
 use Rattle.records.specs.Request.{readRequest}
@@ -29,7 +30,7 @@ use Rattle.transition.proofs.Reach.{reach-fit}
 use Rattle.transition.specs.Transition.{placed}
 
 -- A sound timetable fits.
-pub sound-fits : (t : Timetable) → Sound t → length (t .owners) ≡ LONGEST → length (t .entries) ≡ IDS → Fits t
+sound-fits : (t : Timetable) → Sound t → length (t .owners) ≡ LONGEST → length (t .entries) ≡ IDS → Fits t
 sound-fits t s o n = record {
   owners = o;
   entries = n;
@@ -62,7 +63,7 @@ module _ (t : Timetable) (s : List ℕ) (area : ℕ) where
   accepted-fits e = let c = accepted-continues t s area e in sound-fits _ (c .sound) (accepted-owners e) (c .shape)
 
 -- The timetable in force fits.
-pub present-fits : (qs : List Sent) → Fits (present (historyOf qs))
+present-fits : (qs : List Sent) → Fits (present (historyOf qs))
 unfolding historyOf present
 present-fits [] =
     sound-fits emptyTimetable (sound-from emptyTimetable empty-sound) (length-replicate {A = ℕ} LONGEST 0) (length-replicate IDS noEntry)
@@ -81,7 +82,7 @@ present-fits (q ∷ qs) = at (eqb (answer t (q .bytes) (q .area) .number) ACCEPT
     at false e f = subst (λ (x : History). Fits (present x)) (sym (sent-refused h q (eqb-false _ _ e))) f
 
 -- On the image of a timetable a request gets what it gets on the timetable.
-pub answer-image : (t : Timetable) → Fits t → (s : List ℕ) (area : ℕ) → imageAnswer (imageOf t) s area ≡ answer t s area
+answer-image : (t : Timetable) → Fits t → (s : List ℕ) (area : ℕ) → imageAnswer (imageOf t) s area ≡ answer t s area
 answer-image t f s area =
     answer-held (imageOf t) s area (image-length t (f .owners)) ∙ ap (λ (x : Timetable). answer x s area) (read-back t f)
 

@@ -1,16 +1,14 @@
--- Reading what was written gives it back, and writing what was read too: each field stands where the one before ends. Assumes nothing.
-use lib.ListN.{drop, getD, length, length-append, length-drop, length-replicate, length-set, set, take}
-use lib.Seq.{drop-append-le, drop-at, drop-drop, ext-getD, getD-at, getD-drop, getD-set-other, getD-set-same, take-add, take-all, take-at, take-suc}
+-- Reading what was written gives it back: each field stands where the one before ends. Assumes nothing.
+use lib.ListN.{drop, getD, length, length-append, length-replicate, length-set, set, take}
+use lib.Seq.{drop-append-le, drop-at, drop-drop, ext-getD, getD-at, getD-drop, getD-set-other, getD-set-same, take-at}
 use mathlib.Core.List.{List, [], _∷_, _++_, append-assoc, append-nil}
-use mathlib.Core.Path.{_≡_, refl, sym, ap, ap₂, _∙_}
+use mathlib.Core.Path.{_≡_, sym, ap, _∙_}
 use native.Mathlib.Decide.{ℕ-discrete}
 use native.Mathlib.Omega.{arith}
 use Prim.Native.Nat.{ℕ, zero, suc, _+_, _*_, _^_, _≤_, _<_}
 use Rattle.board.proofs.StoreLaws.{entries-length}
-use Rattle.board.specs.Image.{Fits, IMAGE, entriesAt, entriesBytes, entryAt, entryBytes, imageOf, timetableAt}
-use Rattle.records.proofs.FieldBytes.{bytes-number, bytes-taken, bytesAt}
+use Rattle.board.specs.Image.{Fits, entriesAt, entriesBytes, entryAt, entryBytes, imageOf, timetableAt}
 use Rattle.records.proofs.FieldStands.{number-length, number-stands}
-use Rattle.records.specs.Reads.{Bytes}
 use Rattle.records.specs.Request.{numberAt}
 use Rattle.records.specs.Written.{numberBytes}
 use Rattle.slots.specs.Clocks.{coreSlot}
@@ -147,53 +145,3 @@ read-back t f = λ i. record {
     entries =
         ext-getD noEntry (entriesAt s IDS) (t .entries) (held-length s IDS ∙ sym (f .entries))
         (λ i h. held-at s IDS (omega arith) i (omega (arith, held-length s IDS)) ∙ entry i (omega (arith, held-length s IDS)))
-
--- The n bytes from a place.
-abbrev part : List ℕ → ℕ → ℕ → List ℕ
-part s at n = take n (drop at s)
-
-module _ (s : List ℕ) (len : length s ≡ IMAGE) (bytes : Bytes s) where
-  -- Bytes from a place, and from where they end.
-  part-split : (at n m : ℕ) → part s at n ++ part s (at + n) m ≡ part s at (n + m)
-  part-split at n m = sym (take-add n m (drop at s) ∙ ap (λ (z : List ℕ). take n (drop at s) ++ take m z) (drop-drop n at s))
-
-  -- A number that was read is written as it stood.
-  number-written : (at n : ℕ) → at + n ≤ length s → numberBytes (numberAt s at n) n ≡ part s at n
-  number-written at n h = sym (bytes-taken s at n h ∙ bytes-number s bytes at n)
-
-  -- So is an entry,
-  entry-written : (at : ℕ) → at + 6 ≤ length s → entryBytes (entryAt s at) ≡ part s at 6
-  unfolding entryBytes bytesAt
-  entry-written at h =
-      let a : at + 4 + 0 ≡ at + 4 = omega arith in
-      let b : at + 4 + 1 ≡ at + 5 = omega arith in
-      ap₂ (λ (x y : List ℕ). x ++ (getD s (at + 2) 0 ∷ getD s (at + 3) 0 ∷ y)) (sym (bytes-number s bytes at 2)) (sym (bytes-number s bytes (at + 4) 2))
-      ∙ ap₂ (λ (x y : ℕ). bytesAt s at 4 ++ (getD s x 0 ∷ getD s y 0 ∷ [])) a b
-      ∙ sym (bytes-taken s at 6 h)
-
-  -- and the entries of the ids below n.
-  entries-written : (n : ℕ) → n ≤ IDS → entriesBytes (entriesAt s IDS) n ≡ part s 81 (6 * n)
-  unfolding entriesBytes
-  entries-written zero l = refl
-  entries-written (suc n) l =
-      let e : entryOf (entriesAt s IDS) n ≡ entryAt s (81 + 6 * n) = held-at s IDS (omega arith) n (omega arith) in
-      let six : 6 * n + 6 ≡ 6 * suc n = omega arith in
-      ap₂ _++_ (entries-written n (omega arith)) (ap entryBytes e ∙ entry-written (81 + 6 * n) (omega arith))
-      ∙ part-split 81 (6 * n) 6
-      ∙ ap (part s 81) six
-
-  -- An image is written back from the timetable that it holds.
-  pub write-back : imageOf (timetableAt s) ≡ s
-  unfolding imageOf timetableAt
-  write-back =
-      ap₂ _++_
-      (ap₂ _++_
-      (ap (λ (x : List ℕ). x ++ part s 9 LONGEST)
-      (ap₂ _++_ (number-written 0 8 (omega arith)) (sym (take-suc (drop 8 s) 0 0 (omega (arith, length-drop 8 s)) ∙ ap (λ (x : ℕ). x ∷ []) (getD-drop 8 s 0 0)))
-      ∙ part-split 0 8 1)
-      ∙ part-split 0 9 LONGEST)
-      (number-written 73 8 (omega arith))
-      ∙ part-split 0 73 8)
-      (entries-written IDS (omega arith))
-      ∙ part-split 0 81 192
-      ∙ take-all IMAGE s (omega arith)

@@ -1,26 +1,19 @@
 -- An image after a run of stores: a number from its low byte up, an entry, the entries one behind the other, the whole image. Assumes nothing.
-use lib.ListN.{drop, length, length-append, set, take}
-use lib.Seq.{drop-length, set-comm, sets, sets-eq, take-all}
-use mathlib.Core.List.{List, [], _∷_, _++_, append-assoc, append-nil}
+use lib.ListN.{length, length-append, set, take}
+use lib.Seq.{sets, take-all}
+use mathlib.Core.List.{List, [], _∷_, _++_, append-assoc}
 use mathlib.Core.Path.{_≡_, refl, sym, ap, _∙_}
-use native.Mathlib.Nat.{zero-add}
 use native.Mathlib.Numerals.{add-one, unary-clauses}
 use native.Mathlib.Omega.{arith}
-use Prim.Native.Nat.{ℕ, zero, suc, _+_, _-_, _*_, _/_, _%_, _≤_, _<_}
+use Prim.Native.Nat.{ℕ, zero, suc, _+_, _-_, _*_, _/_, _%_, _<_}
 use Rattle.board.specs.Image.{IMAGE, entriesBytes, entryBytes, imageOf}
-use Rattle.records.proofs.AreaLaws.{set-then, sets-then}
 use Rattle.records.proofs.FieldStands.{number-length}
+use Rattle.records.proofs.SetsLaws.{set-then, sets-all, sets-behind, sets-then}
 use Rattle.records.specs.Written.{numberBytes}
 use Rattle.slots.specs.Limits.{IDS, LONGEST}
 use Rattle.timetable.specs.declared.Entry.{Entry}
 use Rattle.timetable.specs.declared.Timetable.{Timetable}
 use Rattle.timetable.specs.Timetable.{entryOf}
-
--- A store behind a run may come first.
-sets-behind : (l : List ℕ) (i k : ℕ) (vs : List ℕ) (v : ℕ) → i + length vs ≤ k → sets (set l k v) i vs ≡ set (sets l i vs) k v
-sets-behind l i k [] v h = refl
-sets-behind l i k (w ∷ vs) v h =
-    ap (λ (x : List ℕ). sets x (suc i) vs) (set-comm l k i v w (omega arith)) ∙ sets-behind (set l i w) (suc i) k vs v (omega arith)
 
 -- The low byte of a number, then the bytes above it.
 pub number-put : (l : List ℕ) (at m v : ℕ) → 0 < m
@@ -46,7 +39,7 @@ entry-stored l a d at e pa pd =
     pd ∙ rw y (sets-then l at (at + 4) (p ++ e .offset ∷ e .bound ∷ []) (numberBytes (e .shortfall) 2) refl)
 
 -- An entry has six bytes.
-pub entry-length : (e : Entry) → length (entryBytes e) ≡ 6
+entry-length : (e : Entry) → length (entryBytes e) ≡ 6
 unfolding entryBytes numberBytes
 entry-length e = refl
 
@@ -65,12 +58,6 @@ entries-next l m k es n pm pk =
     ∙ ap (λ (x : List ℕ). sets x (81 + 6 * n) (entryBytes (entryOf es n))) pm
     ∙ sets-then l 81 (81 + 6 * n) (entriesBytes es n) (entryBytes (entryOf es n)) (omega (arith, entries-length es n))
     ∙ ap (λ (x : ℕ). sets l 81 (entriesBytes es x)) (sym (add-one n))
-
--- Stores over the whole of a list leave nothing of it.
-pub sets-all : (l vs : List ℕ) → length vs ≡ length l → sets l 0 vs ≡ vs
-sets-all l vs e =
-    sets-eq vs l 0 (omega arith) ∙ ap (λ (n : ℕ). vs ++ drop n l) (zero-add (length vs) ∙ e) ∙ ap (λ (x : List ℕ). vs ++ x) (drop-length l)
-    ∙ append-nil vs
 
 module _ (t : Timetable) (all : length (t .owners) ≡ LONGEST) where
   -- An image has 273 bytes.

@@ -5,8 +5,9 @@ use mathlib.Core.Bool.{Bool, cond}
 use mathlib.Core.List.{List, [], _∷_, _++_}
 use mathlib.Core.Path.{_≡_}
 use Prim.Native.Nat.{ℕ, zero, suc, _+_, _*_, _^_, _<_}
-use Rattle.change.specs.Change.{Answer, answer, refuse, written}
+use Rattle.change.specs.Change.{answer, recordOf, refuse, written}
 use Rattle.change.specs.Controller.{Sent}
+use Rattle.change.specs.declared.Answer.{Answer}
 use Rattle.change.specs.declared.OwnerAnswer.{OwnerAnswer}
 use Rattle.change.specs.declared.StandingAnswer.{StandingAnswer}
 use Rattle.change.specs.Queries.{ownerQuery, refuseOwner, refuseStanding, standingQuery}
@@ -92,7 +93,7 @@ pub record Changed (image request area : List ℕ) (number place tries written :
   pub number-told : number ≡ imageAnswer image request (length area) .number
   pub place-told : place ≡ imageAnswer image request (length area) .place
   pub tries-told : tries ≡ imageAnswer image request (length area) .tries
-  pub written-told : written ≡ length (imageAnswer image request (length area) .bytes)
+  pub written-told : written ≡ length (recordOf (imageAnswer image request (length area)))
   pub image-after : image-left ≡ imageAfter image request (length area)
   pub area-after : area-left ≡ areaAfterImage image request area
 

@@ -1,17 +1,18 @@
 -- Every definition that a case computes with: `unfolding rules` opens them all.
-use Rattle.change.specs.Change.{numberOf, placeOf, timetableOf, bytesOf, startPlan, searchOf, answerOf, answerTo, answer}
-use Rattle.change.specs.Stages.{askedBound, startEntry, startEntries, weightSum, overfull, behind, stageBehind, stageOverfull, stageEarly, stageFields, refusalBefore}
+use Rattle.change.specs.Change.{numberOf, placeOf, timetableOf, startPlan, searchOf, answerOf, answerTo, answer, recordOf}
+use Rattle.change.specs.Stages.{askedBound, entering, startEntries, weightSum, overfull, isBehind, behind, stageSound, stageArea, stageFields, stageEarly, stageOverfull, stageBehind, stagesFirst, stagesListed, verdictBefore}
 use Rattle.frames.specs.Program.{isFrame, frameContent, frameRest, digits, decimal, answeredLength, lineOf, line, linesFrom, programLines}
+use Rattle.numbers.specs.Chain.{orElse, firstOf, refusedAt}
 use Rattle.placement.specs.Placement.{demandOf, comesBefore, insert, ordered, isTaken, allFree, lastFree, placeFrom, placement, settle}
 use Rattle.records.specs.Answer.{field, offsetFields, answerRecord}
-use Rattle.records.specs.Request.{numberAt, lengthAt, contentAt, isField, slotField, limitField, isListing, listedAs, listedField, readListing, refusedRequest, withListing, readRequest}
+use Rattle.records.specs.Request.{numberAt, lengthAt, contentAt, isField, numberField, isListing, listedAs, listedField, readListing, refusedRequest, withListing, readRequest}
 use Rattle.slots.specs.Below.{every, first}
 use Rattle.slots.specs.Shortfall.{weightOf, overSlot, keeps, roomOf, lastOffsetOf}
 use Rattle.slots.specs.Slots.{isOwner, own, shortfall}
 use Rattle.timetable.specs.Sound.{requestInRange, lengthInRange, baseAsStated, ownersListed, isPeriod, isBound, entryInRange, entryBlank, entriesInRange, shareNone, noneShared, unusedOwnersZero, isSound}
-use Rattle.timetable.specs.Timetable.{each, cyclic, shortfallAfter, shortfallAt, startShortfall}
+use Rattle.timetable.specs.Timetable.{each, cyclic, shortfallAfter, shortfallAt}
 use Rattle.transition.specs.Transition.{moreUrgent, mostUrgent, isMissed, overAll, longer, ended, passed, placed, searchFrom}
 
 unfoldable pub rules : Unit {0}
-unfolding numberOf placeOf timetableOf bytesOf startPlan searchOf answerOf answerTo answer askedBound startShortfall startEntry startEntries weightSum overfull behind stageBehind stageOverfull stageEarly stageFields refusalBefore isFrame frameContent frameRest digits decimal answeredLength lineOf line linesFrom programLines demandOf comesBefore insert ordered isTaken allFree lastFree placeFrom placement settle field offsetFields answerRecord numberAt lengthAt contentAt isField slotField limitField isListing listedAs listedField readListing refusedRequest withListing readRequest every first weightOf overSlot keeps roomOf lastOffsetOf isOwner own shortfall requestInRange lengthInRange baseAsStated ownersListed isPeriod isBound entryInRange entryBlank entriesInRange shareNone noneShared unusedOwnersZero isSound each cyclic shortfallAfter shortfallAt moreUrgent mostUrgent isMissed overAll longer ended passed placed searchFrom
+unfolding numberOf placeOf timetableOf startPlan searchOf answerOf answerTo answer recordOf orElse firstOf refusedAt askedBound entering startEntries weightSum overfull isBehind behind stageSound stageArea stageFields stageEarly stageOverfull stageBehind stagesFirst stagesListed verdictBefore isFrame frameContent frameRest digits decimal answeredLength lineOf line linesFrom programLines demandOf comesBefore insert ordered isTaken allFree lastFree placeFrom placement settle field offsetFields answerRecord numberAt lengthAt contentAt isField numberField isListing listedAs listedField readListing refusedRequest withListing readRequest every first weightOf overSlot keeps roomOf lastOffsetOf isOwner own shortfall requestInRange lengthInRange baseAsStated ownersListed isPeriod isBound entryInRange entryBlank entriesInRange shareNone noneShared unusedOwnersZero isSound each cyclic shortfallAfter shortfallAt moreUrgent mostUrgent isMissed overAll longer ended passed placed searchFrom
 rules = tt

@@ -6,7 +6,8 @@ use mathlib.Core.List.{List, [], _∷_, _++_}
 use mathlib.Core.Option.{none, some}
 use mathlib.Core.Path.{_≡_}
 use Prim.Native.Nat.{ℕ, zero, suc, _+_}
-use Rattle.change.specs.Change.{Answer, answer}
+use Rattle.change.specs.Change.{answer, recordOf}
+use Rattle.change.specs.declared.Answer.{Answer}
 use Rattle.change.specs.Stages.{startEntries}
 use Rattle.frames.specs.Program.{programLines}
 use Rattle.records.specs.Answer.{field}
@@ -34,7 +35,8 @@ pub data Asked : Type 0 where
 
 -- What the definitions give for it.
 pub data Given : Type 0 where
-  answered : Answer → Given
+  -- an answer and its record
+  answered : Answer → List ℕ → Given
   figures : List ℕ → Given
 
 -- A case: what is asked, and what document 01 says comes of it.
@@ -42,9 +44,13 @@ pub record Case : Type 0 where
   pub asked : Asked
   pub says : Given
 
+-- An answer with its record.
+unfoldable pub told : Answer → Given
+told a = answered a (recordOf a)
+
 -- What the definitions give for what a case asks.
 unfoldable pub given : Asked → Given
-given (change t s) = answered (answer t s AREA)
+given (change t s) = told (answer t s AREA)
 given (starts t s) =
     let r = readRequest s .request in
     let es = startEntries t (r .slot) (r .asks) in
@@ -107,11 +113,11 @@ afterB = table 6 1 1 (entry 4 0 1 192 ∷ entry 4 2 1 0 ∷ entry 2 1 2 128 ∷ 
 
 -- An acceptance: its tries, timetable and record.
 unfoldable pub accepted : ℕ → Timetable → List ℕ → Given
-accepted tries t bytes = answered (record { number = 0; place = 0; tries = tries; timetable = t; bytes = bytes })
+accepted tries t bytes = answered (record { number = 0; place = 0; tries = tries; timetable = t }) bytes
 
 -- A refusal: its number, place and tries, and the timetable as given.
 unfoldable pub refused : ℕ → ℕ → ℕ → Timetable → Given
-refused number place tries t = answered (record { number = number; place = place; tries = tries; timetable = t; bytes = [] })
+refused number place tries t = answered (record { number = number; place = place; tries = tries; timetable = t }) []
 
 -- What is asked, with what document 01 says.
 abbrev pub case : Asked → Given → Case

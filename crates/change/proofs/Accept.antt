@@ -9,7 +9,7 @@ use native.Mathlib.Omega.{arith}
 use Prim.Native.Nat.{ℕ, _+_, _-_, _*_, _≤_, _<_}
 use Rattle.change.proofs.Start.{start-fit, start-listed}
 use Rattle.change.specs.Change.{newTimetable, startPlan}
-use Rattle.change.specs.Refused.{IsBehind}
+use Rattle.change.specs.Refused.{Behind}
 use Rattle.change.specs.Stages.{startEntries}
 use Rattle.placement.proofs.Complete.{settle-entry, settle-ranged, settle-apart, settle-unlisted}
 use Rattle.placement.proofs.Settle.{length-settle}
@@ -41,7 +41,7 @@ listed-below es len u l = at (decLt u IDS)
     at (no k) = absurd (true-false l (ap isListed (List·getD-eq-default es noEntry {n = u} (omega (arith, len)))))
 
 module _ (t : Timetable) (r : Request) (q : RequestRange r) (later : t .base .0 ≤ r .slot .0)
-    (fine : (i : ℕ) → i < IDS → IsBehind (startEntries t (r .slot) (r .asks)) i → ⊥)
+    (fine : (i : ℕ) → i < IDS → Behind (entryOf (startEntries t (r .slot) (r .asks)) i) → ⊥)
     (k : ℕ) (kl : k ≤ r .limit) (before : PassedFirst k 0 (startPlan t r))
     (p : Plan) (here : reach (startPlan t r) k ≡ some p) (ps : List Place) (rule4 : placement (p .entries) ≡ some ps) where
   plan : Plan

@@ -9,13 +9,13 @@ use mathlib.Core.Path.{_≡_, refl, sym, ap, _∙_, subst}
 use native.Mathlib.Decide.{ℕ-discrete}
 use native.Mathlib.Omega.{arith}
 use Prim.Native.Nat.{ℕ, suc, _-_, _≤_, _<_}
-use Rattle.change.proofs.Answers.{Gets, Passes, accepted, acceptedAs, gets, no-length, no-slot, refused}
-use Rattle.change.proofs.Stages.{stages}
+use Rattle.change.proofs.Answers.{Gets, Admitted, accepted, acceptedAs, gets, no-length, no-slot, record-none, refused, said}
 use Rattle.change.proofs.Start.{length-start, start-at, start-fit}
-use Rattle.change.specs.Change.{Answer, answer, areaAfter, outcome, outcomeOf, startPlan, written}
+use Rattle.change.specs.Change.{answer, areaAfter, outcome, outcomeOf, recordOf, refuse, startPlan, written}
+use Rattle.change.specs.declared.Answer.{Answer}
 use Rattle.change.specs.Given.{AsksBound, Enters, AtRequest, ByRules, Wanting, Gives, early, schedule, wanting}
-use Rattle.change.specs.Refused.{Refuses, passes}
-use Rattle.change.specs.Stages.{askedBound, refusalBefore, startEntries, startEntry}
+use Rattle.change.specs.Stages.{askedBound, entering, startEntries}
+use Rattle.numbers.specs.declared.Verdict.the-variants.{Passed, Refused}
 use Rattle.placement.proofs.Complete.{placement-none, settle-entry, settle-unlisted}
 use Rattle.placement.proofs.RuleFourLaws.{rule-four-is}
 use Rattle.placement.proofs.Settle.{length-settle}
@@ -27,10 +27,10 @@ use Rattle.records.proofs.ReadSteps.{request-read}
 use Rattle.records.specs.declared.Ask.{Ask}
 use Rattle.records.specs.declared.Request.{Request}
 use Rattle.records.specs.Request.{askOf, readRequest}
-use Rattle.slots.specs.Limits.{AREA, IDS, LONGEST}
+use Rattle.slots.specs.Limits.{IDS, LONGEST}
 use Rattle.timetable.specs.declared.Entry.{Entry}
 use Rattle.timetable.specs.declared.Timetable.{Timetable}
-use Rattle.timetable.specs.Timetable.{entryOf, isListed, withOffset}
+use Rattle.timetable.specs.Timetable.{entryOf, isListed, startShortfall, withOffset}
 use Rattle.transition.proofs.Plans.{Fit}
 use Rattle.transition.proofs.Reach.{fit-reached}
 use Rattle.transition.proofs.RuleThreeLaws.{longer-breaks, reach-rule, reach-walked}
@@ -54,21 +54,21 @@ asks-bound a = at (ℕ-discrete (a .bound) 0)
 
 -- The entries at the request slot are those of rule 1.
 pub at-request : (t : Timetable) (q : Request) → AtRequest t q (startEntries t (q .slot) (q .asks))
-unfolding startEntry
+unfolding entering startShortfall
 at-request t q = record {
   count = length-start t (q .slot) (q .asks);
   listed = λ i k h. subst (Enters t q i) (sym (start-at t (q .slot) (q .asks) i k)) (enters i h);
   blank = λ i k z. start-at t (q .slot) (q .asks) i k ∙ rw (le-ltb 0 (askOf (q .asks) i .period) (omega arith));
 }
   where
-    enters : (i : ℕ) → 0 < askOf (q .asks) i .period → Enters t q i (startEntry t (q .slot) i (askOf (q .asks) i))
+    enters : (i : ℕ) → 0 < askOf (q .asks) i .period → Enters t q i (entering (entryOf (t .entries) i) (q .slot .0 - t .base .0) (askOf (q .asks) i))
     enters i h =
         rw (lt-ltb 0 (askOf (q .asks) i .period) h)
         (record { period = refl; bound = asks-bound (askOf (q .asks) i); shortfall = refl; offset = refl })
 
 -- ---- rules 2 to 4
 
-module _ (t : Timetable) (q : Request) (pass : Passes t q) where
+module _ (t : Timetable) (q : Request) (area : ℕ) (pass : Admitted t q area) where
   abbrev plan : Plan
   plan = startPlan t q
 
@@ -94,7 +94,7 @@ module _ (t : Timetable) (q : Request) (pass : Passes t q) where
 
     module _ (ps : List Place) (rule4 : placement (x .entries) ≡ some ps) where
       -- The timetable found is by the rules.
-      by-rules : n ≤ q .limit → PassedFirst n 0 plan → ByRules q (plan .entries) (acceptedAs q n x ps .timetable)
+      by-rules : n ≤ q .limit → PassedFirst n 0 plan → ByRules q (plan .entries) (acceptedAs q n (placed x ps) .timetable)
       unfolding placed startPlan
       by-rules l b = record {
         slot = refl;
@@ -168,31 +168,25 @@ module _ (t : Timetable) (q : Request) (pass : Passes t q) where
 -- ---- the whole
 
 pub gives : (t : Timetable) (s area : List ℕ) → Gives t s area (outcome t s area) (areaAfter t s area)
-unfolding outcome areaAfter startPlan placed
+unfolding outcome areaAfter recordOf startPlan placed
 gives t s area = at (answer t s (length area)) (gets t s (length area))
   where
-    passed : refusalBefore t (readRequest s) (length area) ≡ none → Refuses t (readRequest s) (length area) none
-    passed e = subst (Refuses t (readRequest s) (length area)) e (stages t (readRequest s) (length area))
-
-    enough : Refuses t (readRequest s) (length area) none → AREA ≤ length area
-    enough (passes a b c d f g) = b
-
     at : (a : Answer) → Gets t s (length area) a → Gives t s area (outcomeOf a) (written a area)
-    at a (refused x e l h) = early (readRequest s) (request-read s) x (subst (Refuses t (readRequest s) (length area)) e (stages t (readRequest s) (length area)))
+    at a (refused x e l h) = rw (record-none (refuse t x) (λ z. omega (arith, z))) (early (readRequest s) (request-read s) x (said t s (length area) (Refused x) e))
     at a (accepted e p k l b x h ps f) =
         let small : k ≤ LONGEST = omega (arith, p .range .limit) in
-        schedule (readRequest s) (request-read s) (passed e) (outcomeOf a) (written a area)
+        schedule (readRequest s) (request-read s) (said t s (length area) Passed e) (outcomeOf a) (written a area)
         (record {
           start = startPlan t (readRequest s .request) .entries;
           starts = at-request t (readRequest s .request);
-          rules = by-rules t (readRequest s .request) p k small x h ps f l b;
+          rules = by-rules t (readRequest s .request) (length area) p k small x h ps f l b;
           number = refl;
           place = refl;
           tries = refl;
           answer =
               answer-stands k (x .owners) (placed x ps .entries) area small
-              (omega (arith, fit-here t (readRequest s .request) p k small x h .places))
-              (enough (passed e));
+              (omega (arith, fit-here t (readRequest s .request) (length area) p k small x h .places))
+              (p .room);
         })
-    at a (no-slot e p k l b x h f) = wanting (readRequest s) (request-read s) (passed e) k (want-missed t (readRequest s .request) p k l b x h f)
-    at a (no-length e p b) = wanting (readRequest s) (request-read s) (passed e) (readRequest s .request .limit) (want-exhausted t (readRequest s .request) p b)
+    at a (no-slot e p k l b x h f) = wanting (readRequest s) (request-read s) (said t s (length area) Passed e) k (want-missed t (readRequest s .request) (length area) p k l b x h f)
+    at a (no-length e p b) = wanting (readRequest s) (request-read s) (said t s (length area) Passed e) (readRequest s .request .limit) (want-exhausted t (readRequest s .request) (length area) p b)

@@ -6,8 +6,6 @@ pub mod GivenLaws
 pub mod OneGiven
 pub mod Histories
 pub mod StageSteps
-pub mod FirstStages
-pub mod EndingSteps
 pub mod Passing
 pub mod QueryLaws
 pub mod QueriedLaws

@@ -5,27 +5,30 @@ use lib.ListN.{getD, length}
 use lib.Seq.{ext-getD}
 use mathlib.Core.List.{List}
 use mathlib.Core.Logic.{_⊎_, inl, inr}
-use mathlib.Core.Option.{Option, none, some}
 use mathlib.Core.Path.{_≡_, refl, sym, ap, _∙_, subst}
 use native.Mathlib.Decide.{ℕ-discrete, decLt}
 use native.Mathlib.Omega.{arith}
 use Prim.Native.Nat.{ℕ, suc, _+_, _≤_, _<_}
+use Rattle.change.proofs.Answers.{Admitted, admitted}
 use Rattle.change.proofs.GivenLaws.{at-request}
-use Rattle.change.proofs.Stages.{stages-only}
+use Rattle.change.proofs.Stages.{stages}
 use Rattle.change.proofs.Start.{start-ranged}
 use Rattle.change.specs.declared.Outcome.{Outcome}
 use Rattle.change.specs.Given.{AsksBound, Enters, AtRequest, ByRules, Accepted, Wanting, Gives, early, schedule, wanting, refusedWith}
-use Rattle.change.specs.Refused.{IsBehind, Refuses, passes}
-use Rattle.change.specs.Stages.{refusalBefore, startEntries}
+use Rattle.change.specs.Refused.{Behind, StagesSay}
+use Rattle.change.specs.Stages.{startEntries, verdictBefore}
+use Rattle.numbers.proofs.ChainLaws.{not-passed}
 use Rattle.placement.proofs.RuleFourLaws.{rule-four-one, rule-four-placement}
 use Rattle.placement.specs.Any.{Lists, NoPlacement}
 use Rattle.placement.specs.RuleFour.{ByRuleFour}
 use Rattle.records.proofs.AnswerPlaces.{answer-one}
-use Rattle.records.proofs.ReadLaws.{RequestRange, read-in-range}
+use Rattle.records.proofs.ReadLaws.{RequestRange}
 use Rattle.records.proofs.ReadSteps.{request-is}
 use Rattle.records.specs.AnswerForm.{AnswerStands}
 use Rattle.records.specs.declared.ReadRequest.{ReadRequest}
 use Rattle.numbers.specs.declared.Refusal.{Refusal}
+use Rattle.numbers.specs.declared.Verdict.{Verdict}
+use Rattle.numbers.specs.declared.Verdict.the-variants.{Passed, Refused}
 use Rattle.records.specs.declared.Request.{Request}
 use Rattle.numbers.specs.Numbers.{NO-SCHEDULE}
 use Rattle.records.specs.Reads.{RequestRead}
@@ -153,7 +156,7 @@ module _ (t : Timetable) (q : Request) (start : List Entry) (s : AtRequest t q s
 
 -- ---- the whole
 
-module _ (t : Timetable) (q : Request) (range : RequestRange q) (fine : (i : ℕ) → i < IDS → IsBehind (startEntries t (q .slot) (q .asks)) i → ⊥) where
+module _ (t : Timetable) (q : Request) (range : RequestRange q) (fine : (i : ℕ) → i < IDS → Behind (entryOf (startEntries t (q .slot) (q .asks)) i) → ⊥) where
   -- The entries at the request slot are in range.
   start-in-range : (es : List Entry) → AtRequest t q es → Ranged es
   start-in-range es s = subst Ranged (start-one t q (startEntries t (q .slot) (q .asks)) es (at-request t q) s) (start-ranged t (q .slot) (q .asks) (range .asks) fine)
@@ -217,54 +220,49 @@ module _ (t : Timetable) (s area : List ℕ) where
   as-read : (P : ReadRequest → Type 0) (read : ReadRequest) → RequestRead s read → P read → P (readRequest s)
   as-read P read e = subst P (sym (request-is s read e))
 
-  refused : (o : Option Refusal) (read : ReadRequest) → RequestRead s read → Refuses t read (length area) o → refusalBefore t (readRequest s) (length area) ≡ o
-  refused o read e p = stages-only t (readRequest s) (length area) o (as-read (λ y. Refuses t y (length area) o) read e p)
+  judged : (v : Verdict) (read : ReadRequest) → RequestRead s read → StagesSay t read (length area) v → verdictBefore t (readRequest s) (length area) ≡ v
+  judged v read e p = stages t (readRequest s) (length area) .only v (as-read (λ y. StagesSay t y (length area) v) read e p)
 
   -- No request is both refused before the search and searched.
-  not-early : (x : Refusal) (a b : ReadRequest) → RequestRead s a → RequestRead s b → Refuses t a (length area) (some x) → Refuses t b (length area) none → ⊥
-  not-early x a b d e p q =
-      let k = refused (some x) a d p in
-      let l = refused none b e q in
-      let z : _≡_ {A = ℕ} 0 1 = cc in
-      omega arith
+  not-early : (x : Refusal) (a b : ReadRequest) → RequestRead s a → RequestRead s b → StagesSay t a (length area) (Refused x)
+      → StagesSay t b (length area) Passed → ⊥
+  not-early x a b d e p q = not-passed x (sym (judged Passed b e q) ∙ judged (Refused x) a d p)
 
   -- A request that is searched is in range, and nobody in it is behind.
-  passed : Refuses t (readRequest s) (length area) none
-      → RequestRange (readRequest s .request)
-      × ((i : ℕ) → i < IDS → IsBehind (startEntries t (readRequest s .request .slot) (readRequest s .request .asks)) i → ⊥)
-  passed (passes a b c d f g) = (read-in-range s c, g)
+  passes : (read : ReadRequest) → RequestRead s read → StagesSay t read (length area) Passed → Admitted t (readRequest s .request) (length area)
+  passes read e p = admitted t s (length area) (as-read (λ y. StagesSay t y (length area) Passed) read e p)
 
   -- The rules leave one outcome and one content of the area.
   pub gives-one : (r r′ : Outcome) (out out′ : List ℕ) → Gives t s area r out → Gives t s area r′ out′ → (r ≡ r′) × (out ≡ out′)
   gives-one r r′ out out′ (early a d x p) (early b e y q) =
-      let k = refused (some x) a d p in
-      let l = refused (some y) b e q in
+      let k = judged (Refused x) a d p in
+      let l = judged (Refused y) b e q in
       let z : x ≡ y = cc in
       (ap (λ (w : Refusal). refusedWith t (w .number) (w .place) 0) z, refl)
   gives-one r r′ out out′ (early a d x p) (schedule b e q u v w) = absurd (not-early x a b d e p q)
   gives-one r r′ out out′ (early a d x p) (wanting b e q n w) = absurd (not-early x a b d e p q)
   gives-one r r′ out out′ (schedule a d p u v w) (early b e y q) = absurd (not-early y b a e d q p)
   gives-one r r′ out out′ (schedule a d p u v w) (schedule b e q u′ v′ w′) =
-      let g = passed (as-read (λ y. Refuses t y (length area) none) a d p) in
-      accepted-one t (readRequest s .request) (g .0) (g .1) area u u′ v v′
+      let g = passes a d p in
+      accepted-one t (readRequest s .request) (g .range) (g .fine) area u u′ v v′
       (as-read (λ y. Accepted t (y .request) area u v) a d w)
       (as-read (λ y. Accepted t (y .request) area u′ v′) b e w′)
   gives-one r r′ out out′ (schedule a d p u v w) (wanting b e q n x) =
-      let g = passed (as-read (λ y. Refuses t y (length area) none) a d p) in
+      let g = passes a d p in
       absurd
-      (not-wanting t (readRequest s .request) (g .0) (g .1) area u v n
+      (not-wanting t (readRequest s .request) (g .range) (g .fine) area u v n
       (as-read (λ y. Accepted t (y .request) area u v) a d w)
       (as-read (λ y. Wanting t (y .request) n) b e x))
   gives-one r r′ out out′ (wanting a d p n x) (early b e y q) = absurd (not-early y b a e d q p)
   gives-one r r′ out out′ (wanting a d p n x) (schedule b e q u v w) =
-      let g = passed (as-read (λ y. Refuses t y (length area) none) a d p) in
+      let g = passes a d p in
       absurd
-      (not-wanting t (readRequest s .request) (g .0) (g .1) area u v n
+      (not-wanting t (readRequest s .request) (g .range) (g .fine) area u v n
       (as-read (λ y. Accepted t (y .request) area u v) b e w)
       (as-read (λ y. Wanting t (y .request) n) a d x))
   gives-one r r′ out out′ (wanting a d p n x) (wanting b e q m y) =
-      let g = passed (as-read (λ z. Refuses t z (length area) none) a d p) in
-      let z = wanting-one t (readRequest s .request) (g .0) (g .1) n m
+      let g = passes a d p in
+      let z = wanting-one t (readRequest s .request) (g .range) (g .fine) n m
       (as-read (λ z. Wanting t (z .request) n) a d x)
       (as-read (λ z. Wanting t (z .request) m) b e y) in
       (ap (λ (k : ℕ). refusedWith t NO-SCHEDULE 0 (suc k)) z, refl)

@@ -2,7 +2,8 @@
 use mathlib.Core.List.{List}
 use mathlib.Core.Path.{_≡_, sym, _∙_}
 use Prim.Native.Nat.{ℕ}
-use Rattle.change.specs.Change.{outcome, areaAfter}
+use Rattle.change.specs.Change.{answer, outcome, areaAfter}
+use Rattle.change.specs.declared.Answer.{Answer}
 use Rattle.change.specs.declared.Outcome.{Outcome}
 use Rattle.change.specs.declared.OwnerAnswer.{OwnerAnswer}
 use Rattle.change.specs.declared.StandingAnswer.{StandingAnswer}
@@ -20,6 +21,10 @@ one-outcome said x y p q = p ∙ sym q
 pub change-unique : (t : Timetable) (s area : List ℕ) (r r′ : Outcome) (out out′ : List ℕ)
     → (r ≡ outcome t s area) × (out ≡ areaAfter t s area) → (r′ ≡ outcome t s area) × (out′ ≡ areaAfter t s area) → (r ≡ r′) × (out ≡ out′)
 change-unique t s area r r′ out out′ p q = (one-outcome _ r r′ (p .0) (q .0), one-outcome _ out out′ (p .1) (q .1))
+
+-- `decide`.
+pub decide-unique : (t : Timetable) (s : List ℕ) (area : ℕ) (r r′ : Answer) → r ≡ answer t s area → r′ ≡ answer t s area → r ≡ r′
+decide-unique t s area r r′ p q = one-outcome _ r r′ p q
 
 -- `owner_query`.
 pub owner-unique : (t : Timetable) (slot : CoreSlot) (r r′ : OwnerAnswer) → r ≡ ownerQuery t slot → r′ ≡ ownerQuery t slot → r ≡ r′

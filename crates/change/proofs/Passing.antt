@@ -1,26 +1,28 @@
--- What a request that passes the stages hands to the search, and what the search hands back. Assumes nothing.
+-- The answer from the verdicts of the stages, and what a request that passes them hands to the search. Assumes nothing.
+use mathlib.Core.Bool.{true}
 use mathlib.Core.List.{List}
-use mathlib.Core.Option.{Option, none, some}
 use mathlib.Core.Path.{_≡_, sym, ap, _∙_, subst}
 use native.Mathlib.Omega.{arith}
 use Prim.Native.Nat.{ℕ, _≤_}
-use Rattle.change.proofs.FirstStages.{told, told-is}
-use Rattle.change.proofs.Stages.{stages}
+use Rattle.change.proofs.Answers.{Admitted, admitted, Gets, refused, accepted, no-slot, no-length, gets, said}
+use Rattle.change.proofs.Stages.{first-tells}
 use Rattle.change.proofs.Start.{start-fit}
-use Rattle.change.specs.Change.{Answer, startPlan, searchOf, answerOf, refuse, answerTo, answer}
-use Rattle.change.specs.Coded.{readingOf, Holds}
-use Rattle.change.specs.Refused.{Refuses, passes}
-use Rattle.change.specs.Stages.{refusalBefore}
-use Rattle.records.proofs.ReadLaws.{RequestRange, read-in-range}
-use Rattle.records.specs.declared.Reading.{Reading}
-use Rattle.records.specs.declared.Reading.the-variants.{Whole, Refused}
-use Rattle.records.specs.declared.ReadRequest.{ReadRequest}
+use Rattle.change.specs.Change.{startPlan, searchOf, numberOf, placeOf, timetableOf, answerOf, refuse, answerTo, answer}
+use Rattle.change.specs.Coded.{Holds, GoesInto}
+use Rattle.change.specs.declared.Answer.{Answer}
+use Rattle.change.specs.Refused.{FirstStages, sound, enough, whole, in-time}
+use Rattle.change.specs.Stages.{stagesFirst, stagesListed, verdictBefore}
+use Rattle.numbers.proofs.ChainLaws.{split-refused, split-passed}
+use Rattle.numbers.specs.Chain.{firstOf, passed}
 use Rattle.numbers.specs.declared.Refusal.{Refusal}
+use Rattle.numbers.specs.declared.Verdict.{Verdict}
+use Rattle.numbers.specs.declared.Verdict.the-variants.{Passed, Refused}
+use Rattle.records.specs.declared.ReadRequest.{ReadRequest}
 use Rattle.records.specs.declared.Request.{Request}
 use Rattle.records.specs.Request.{readRequest}
-use Rattle.slots.specs.Limits.{AREA}
 use Rattle.timetable.proofs.Sound.{ranged-is}
 use Rattle.timetable.specs.declared.Timetable.{Timetable}
+use Rattle.timetable.specs.Sound.{isSound}
 use Rattle.transition.proofs.Search.{Ended, found, missed, exhausted, search-ends}
 use Rattle.transition.specs.Coded.{Ready}
 use Rattle.transition.specs.declared.Ending.{Ending}
@@ -45,56 +47,76 @@ found-limit limit plan = at (searchFrom limit 0 plan) (search-ends limit 0 plan)
     at x (missed k l b p h f i) = subst (λ (x : Searched). lengthOf (x .ending) ≤ limit) (sym i) (omega arith)
     at x (exhausted b p i) = subst (λ (x : Searched). lengthOf (x .ending) ≤ limit) (sym i) (omega arith)
 
--- What passing the stages says.
-pub record Passing (t : Timetable) (r : Request) (area : ℕ) : Type 0 where
-  pub room : AREA ≤ area
-  pub range : RequestRange r
-  pub ready : Ready (startPlan t r)
+-- The answer of a search, were this its ending.
+abbrev pub endedAs : Timetable → Request → Searched → Ending → Answer
+endedAs t r s e = record { number = numberOf e; place = placeOf e; tries = s .tries; timetable = timetableOf t r (s .plan) e }
+
+pub answer-ended : (t : Timetable) (r : Request) (s : Searched) (e : Ending) → s .ending ≡ e → answerOf t r s ≡ endedAs t r s e
+unfolding answerOf
+answer-ended t r s e h = ap (endedAs t r s) h
+
+-- An answer's record goes into the area for which it was decided.
+pub goes-into : (t : Timetable) (s : List ℕ) (area : ℕ) → GoesInto (answer t s area) area
+goes-into t s area = at (answer t s area) (gets t s area)
+  where
+    at : (a : Answer) → Gets t s area a → GoesInto a area
+    at a (refused q e l h) z = absurd (omega arith)
+    at a (accepted e p k l b q h ps f) z = (p .room, omega (arith, p .range .limit))
+    at a (no-slot e p k l b q h f) z = absurd (omega arith)
+    at a (no-length e p b) z = absurd (omega arith)
 
 module _ (t : Timetable) (s : List ℕ) (area : ℕ) (read : ReadRequest) (q : read ≡ readRequest s) where
-  stopped : (x : Reading) → x ≡ readingOf (refusalBefore t read area) → refusalBefore t read area ≡ told x
-  stopped x e = sym (told-is (refusalBefore t read area)) ∙ ap told (sym e)
+  -- The answer, were this the verdict.
+  given : Verdict → Answer
+  given v = elim v [ Passed ↦ answerOf t (read .request) (searchOf t (read .request)) | Refused r ↦ refuse t r ]
 
-  -- The answer, were this the refusal.
-  given : Option Refusal → Answer
-  given o = elim o [ none ↦ answerOf t (read .request) (searchOf t (read .request)) | some r ↦ refuse t r ]
-
-  answer-told : (x : Reading) → x ≡ readingOf (refusalBefore t read area) → answer t s area ≡ given (told x)
+  answer-given : (v : Verdict) → verdictBefore t read area ≡ v → answer t s area ≡ given v
   unfolding answer answerTo given
-  answer-told x e = ap (λ (y : ReadRequest). answerTo t y area) (sym q) ∙ ap given (stopped x e)
+  answer-given v e = ap (λ (y : ReadRequest). answerTo t y area) (sym q) ∙ ap given e
 
-  pub answer-refused : (r : Refusal) → Refused r ≡ readingOf (refusalBefore t read area) → answer t s area ≡ refuse t r
-  unfolding given told
-  answer-refused r e = answer-told (Refused r) e
+  -- What the first stages refuse.
+  pub answer-first : (r : Refusal) → firstOf (stagesFirst t read area) ≡ Refused r → answer t s area ≡ refuse t r
+  unfolding given verdictBefore
+  answer-first r e = answer-given (Refused r) (split-refused (stagesFirst t read area) _ r e)
 
-  module _ (e : Whole ≡ readingOf (refusalBefore t read area)) where
-    pub answer-searched : (plan : Plan) → plan ≡ startPlan t (read .request) → (x : Searched) → x ≡ searchFrom (read .request .limit) 0 plan
-        → answer t s area ≡ answerOf t (read .request) x
-    unfolding given told searchOf
-    answer-searched plan p x h =
-        answer-told Whole e ∙ ap (answerOf t (read .request)) (sym (h ∙ ap (searchFrom (read .request .limit) 0) p))
+  module _ (e : firstOf (stagesFirst t read area) ≡ Passed) (plan : Plan) (p : plan ≡ startPlan t (read .request)) where
+    -- What passes them is judged by the stages after them.
+    listed-next : verdictBefore t read area ≡ firstOf (stagesListed (plan .entries))
+    unfolding verdictBefore startPlan
+    listed-next = split-passed (stagesFirst t read area) _ e ∙ sym (ap (λ (x : Plan). firstOf (stagesListed (x .entries))) p)
 
-    pub passing : Passing t (read .request) area
-    unfolding told
-    passing = at (subst (Refuses t read area) (stopped Whole e) (stages t read area))
-      where
-        at : Refuses t read area none → Passing t (read .request) area
-        at (passes a b c d f g) =
-            let range = subst (λ (y : ReadRequest). y .reading ≡ Whole → RequestRange (y .request)) (sym q) (read-in-range s) c in
-            let fit = start-fit t (read .request) range g in
-            record {
-              room = b;
-              range = range;
-              ready = record { ranged = ranged-is (startPlan t (read .request) .entries) (fit .ranged); unplaced = fit .unplaced };
-            }
+    pub answer-listed : (r : Refusal) → firstOf (stagesListed (plan .entries)) ≡ Refused r → answer t s area ≡ refuse t r
+    unfolding given
+    answer-listed r f = answer-given (Refused r) (listed-next ∙ f)
 
-    pub ready-plan : (plan : Plan) → plan ≡ startPlan t (read .request) → Ready plan
-    ready-plan plan p = subst Ready (sym p) (passing .ready)
+    module _ (f : firstOf (stagesListed (plan .entries)) ≡ Passed) where
+      pub answer-searched : (x : Searched) → x ≡ searchFrom (read .request .limit) 0 plan → answer t s area ≡ answerOf t (read .request) x
+      unfolding given searchOf
+      answer-searched x h =
+          answer-given Passed (listed-next ∙ f) ∙ ap (answerOf t (read .request)) (sym (h ∙ ap (searchFrom (read .request .limit) 0) p))
 
-    pub holds : (plan : Plan) (x : Searched) → x ≡ searchFrom (read .request .limit) 0 plan → Holds (read .request) x
-    unfolding lengthOf
-    holds plan x h = record {
-      slot = passing .range .slot;
-      size = λ n k.
-          omega (arith, found-limit (read .request .limit) plan, ap lengthOf (sym k ∙ ap (λ (y : Searched). y .ending) h), passing .range .limit);
-    }
+      pub passes : Admitted t (read .request) area
+      passes =
+          subst (λ (y : ReadRequest). verdictBefore t y area ≡ Passed → Admitted t (y .request) area) (sym q)
+          (λ v. admitted t s area (said t s area Passed v)) (listed-next ∙ f)
+
+      pub ready-plan : Ready plan
+      ready-plan =
+          let fit = start-fit t (read .request) (passes .range) (passes .fine) in
+          subst Ready (sym p) (record { ranged = ranged-is (startPlan t (read .request) .entries) (fit .ranged); unplaced = fit .unplaced })
+
+      pub holds : (x : Searched) → x ≡ searchFrom (read .request .limit) 0 plan → Holds (read .request) x
+      unfolding lengthOf
+      holds x h = record {
+        slot = passes .range .slot;
+        size = λ n k.
+            omega (arith, found-limit (read .request .limit) plan, ap lengthOf (sym k ∙ ap (λ (y : Searched). y .ending) h), passes .range .limit);
+      }
+
+-- What passes the first stages has a sound timetable, and a slot that is not too early.
+pub first-passes : (t : Timetable) (read : ReadRequest) (area : ℕ) → firstOf (stagesFirst t read area) ≡ Passed
+    → (isSound t ≡ true) × (t .base .0 ≤ read .request .slot .0)
+first-passes t read area e = at (subst (FirstStages t read area) e (first-tells t read area .holds))
+  where
+    at : FirstStages t read area Passed → (isSound t ≡ true) × (t .base .0 ≤ read .request .slot .0)
+    at (passed _ (sound a) (passed _ (enough b) (passed _ (whole c) (in-time d)))) = (a, d)

@@ -8,10 +8,10 @@ use mathlib.Core.Logic.{inl, inr}
 use mathlib.Core.Path.{_≡_, refl, sym, ap, _∙_, subst}
 use native.Mathlib.Decide.{ℕ-discrete, decLt}
 use native.Mathlib.Omega.{arith}
-use Prim.Native.Nat.{ℕ, _+_, _*_, _≤_, _<_}
+use Prim.Native.Nat.{ℕ, _+_, _-_, _*_, _≤_, _<_}
 use Rattle.change.specs.Change.{startPlan}
-use Rattle.change.specs.Refused.{IsBehind}
-use Rattle.change.specs.Stages.{askedBound, startEntry, startEntries}
+use Rattle.change.specs.Refused.{Behind}
+use Rattle.change.specs.Stages.{askedBound, entering, startEntries}
 use Rattle.records.proofs.ReadLaws.{AskRange, AsksRange, RequestRange}
 use Rattle.records.specs.declared.Ask.{Ask}
 use Rattle.records.specs.declared.Request.{Request}
@@ -36,14 +36,14 @@ module _ (t : Timetable) (slot : CoreSlot) (asks : List Ask) where
   unfolding startEntries
   length-start = length-each _ IDS (replicate IDS noEntry) ∙ length-replicate IDS noEntry
 
-  pub start-at : (i : ℕ) → i < IDS → entryOf (startEntries t slot asks) i ≡ startEntry t slot i (askOf asks i)
+  pub start-at : (i : ℕ) → i < IDS → entryOf (startEntries t slot asks) i ≡ entering (entryOf (t .entries) i) (slot .0 - t .base .0) (askOf asks i)
   unfolding startEntries
-  start-at i k = each-at (λ i e. startEntry t slot i (askOf asks i)) IDS (replicate IDS noEntry) (omega (arith, length-replicate IDS noEntry)) i k
+  start-at i k = each-at _ IDS (replicate IDS noEntry) (omega (arith, length-replicate IDS noEntry)) i k
 
   -- An id that starts listed was asked for.
   pub start-listed : (i : ℕ) → i < IDS → isListed (entryOf (startEntries t slot asks) i) ≡ true
       → (0 < askOf asks i .period) × (entryOf (startEntries t slot asks) i ≡ asked t slot i (askOf asks i))
-  unfolding startEntry
+  unfolding entering startShortfall
   start-listed i k l = at (ltb 0 (askOf asks i .period)) refl
     where
       at : (b : Bool) → ltb 0 (askOf asks i .period) ≡ b
@@ -53,7 +53,7 @@ module _ (t : Timetable) (slot : CoreSlot) (asks : List Ask) where
 
   -- An id that does not is blank.
   start-blank : (i : ℕ) → i < IDS → isListed (entryOf (startEntries t slot asks) i) ≡ false → entryOf (startEntries t slot asks) i ≡ noEntry
-  unfolding startEntry
+  unfolding entering startShortfall
   start-blank i k l = at (ltb 0 (askOf asks i .period)) refl
     where
       at : (b : Bool) → ltb 0 (askOf asks i .period) ≡ b → entryOf (startEntries t slot asks) i ≡ noEntry
@@ -72,7 +72,7 @@ module _ (t : Timetable) (slot : CoreSlot) (asks : List Ask) where
       at (no e) = rw (ne-eqb (a .bound) 0 e) (omega arith)
 
   -- Where nobody is behind, the entries are in range.
-  pub start-ranged : AsksRange asks → ((i : ℕ) → i < IDS → IsBehind (startEntries t slot asks) i → ⊥) → Ranged (startEntries t slot asks)
+  pub start-ranged : AsksRange asks → ((i : ℕ) → i < IDS → Behind (entryOf (startEntries t slot asks) i) → ⊥) → Ranged (startEntries t slot asks)
   start-ranged r n = record { listed = listed; blank = start-blank }
     where
       es : List Entry
@@ -111,7 +111,7 @@ zeros n k = at (decLt k n)
     at (no h) = List·getD-eq-default {A = ℕ} (replicate n 0) 0 {n = k} (omega (arith, length-replicate {A = ℕ} n 0))
 
 -- The plan of length 0 is fit.
-pub start-fit : (t : Timetable) (r : Request) → RequestRange r → ((i : ℕ) → i < IDS → IsBehind (startEntries t (r .slot) (r .asks)) i → ⊥)
+pub start-fit : (t : Timetable) (r : Request) → RequestRange r → ((i : ℕ) → i < IDS → Behind (entryOf (startEntries t (r .slot) (r .asks)) i) → ⊥)
     → Fit 0 (startPlan t r)
 unfolding startPlan
 start-fit t r q n = record {

@@ -1,15 +1,19 @@
 -- Document 01, "The change" and "What each number says": the whole outcome of a request.
-use lib.ListN.{drop, length, replicate}
-use mathlib.Core.List.{List, [], _++_}
-use mathlib.Core.Option.{none, some}
+use lib.Dec.{eqb}
+use lib.ListN.{length, replicate}
+use lib.Seq.{sets}
+use mathlib.Core.Bool.{cond}
+use mathlib.Core.List.{List, []}
 use Prim.Native.Nat.{ℕ, _+_}
+use Rattle.change.specs.declared.Answer.{Answer}
 use Rattle.change.specs.declared.Outcome.{Outcome}
-use Rattle.change.specs.Stages.{startEntries, refusalBefore}
+use Rattle.change.specs.Stages.{startEntries, verdictBefore}
+use Rattle.numbers.specs.declared.Refusal.{Refusal}
+use Rattle.numbers.specs.declared.Verdict.the-variants.{Passed, Refused}
+use Rattle.numbers.specs.Numbers.{ACCEPTED, NO-SCHEDULE}
 use Rattle.records.specs.Answer.{answerRecord}
 use Rattle.records.specs.declared.ReadRequest.{ReadRequest}
-use Rattle.numbers.specs.declared.Refusal.{Refusal}
 use Rattle.records.specs.declared.Request.{Request}
-use Rattle.numbers.specs.Numbers.{ACCEPTED, NO-SCHEDULE}
 use Rattle.records.specs.Request.{readRequest}
 use Rattle.slots.specs.Clocks.{coreSlot}
 use Rattle.slots.specs.Limits.{LONGEST}
@@ -19,14 +23,6 @@ use Rattle.transition.specs.declared.Ending.the-variants.{Found, Missed, Exhaus
 use Rattle.transition.specs.declared.Plan.{Plan}
 use Rattle.transition.specs.declared.Searched.{Searched}
 use Rattle.transition.specs.Transition.{searchFrom}
-
--- What a request gets, with the bytes of its answer record.
-pub record Answer : Type 0 where
-  pub number : ℕ
-  pub place : ℕ
-  pub tries : ℕ
-  pub timetable : Timetable
-  pub bytes : List ℕ
 
 -- The number of an ending: accepted, or no length up to T gives a schedule.
 unfoldable pub numberOf : Ending → ℕ
@@ -56,12 +52,6 @@ timetableOf t r plan (Found n) = newTimetable r n plan
 timetableOf t r plan (Missed n) = t
 timetableOf t r plan (Exhausted n) = t
 
--- The answer record of an ending; a refusal has none.
-unfoldable pub bytesOf : Plan → Ending → List ℕ
-bytesOf plan (Found n) = answerRecord n (plan .owners) (plan .entries)
-bytesOf plan (Missed n) = []
-bytesOf plan (Exhausted n) = []
-
 -- The plan of length 0: no transition slot, and the shortfalls at the request slot.
 unfoldable pub startPlan : Timetable → Request → Plan
 startPlan t r = record { owners = replicate LONGEST 0; entries = startEntries t (r .slot) (r .asks) }
@@ -77,29 +67,32 @@ answerOf t r s = record {
   place = placeOf (s .ending);
   tries = s .tries;
   timetable = timetableOf t r (s .plan) (s .ending);
-  bytes = bytesOf (s .plan) (s .ending);
 }
 
--- A refusal before the search returns its number and place, 0 tries, no bytes and the timetable as given.
+-- A refusal before the search: its number and place, 0 tries, and the timetable as given.
 abbrev pub refuse : Timetable → Refusal → Answer
-refuse t r = record { number = r .number; place = r .place; tries = 0; timetable = t; bytes = [] }
+refuse t r = record { number = r .number; place = r .place; tries = 0; timetable = t }
 
 -- The answer to a request, as it was read, with an answer area of a given size: the stages before, then the search.
 unfoldable pub answerTo : Timetable → ReadRequest → ℕ → Answer
 answerTo t read area =
-    elim (refusalBefore t read area) [ none ↦ answerOf t (read .request) (searchOf t (read .request)) | some r ↦ refuse t r ]
+    elim (verdictBefore t read area) [ Passed ↦ answerOf t (read .request) (searchOf t (read .request)) | Refused r ↦ refuse t r ]
 
--- The answer to the bytes s of a request.
+-- The answer to the bytes s of a request. It is decided before any byte is written.
 unfoldable pub answer : Timetable → List ℕ → ℕ → Answer
 answer t s area = answerTo t (readRequest s) area
 
+-- The answer record of an answer; a refusal has none.
+unfoldable pub recordOf : Answer → List ℕ
+recordOf a = cond (eqb (a .number) ACCEPTED) (answerRecord (a .timetable .length) (a .timetable .owners) (a .timetable .entries)) []
+
 -- An answer as it is returned: with the number of bytes written.
 abbrev pub outcomeOf : Answer → Outcome
-outcomeOf a = record { number = a .number; place = a .place; tries = a .tries; written = length (a .bytes); timetable = a .timetable }
+outcomeOf a = record { number = a .number; place = a .place; tries = a .tries; written = length (recordOf a); timetable = a .timetable }
 
--- An answer written to an area: its record, and the bytes after it as they were. (A refusal has no record, so no byte changes.)
+-- An answer written to an area: its record from the start, and the bytes after it as they were. (A refusal has no record, so no byte changes.)
 abbrev pub written : Answer → List ℕ → List ℕ
-written a area = a .bytes ++ drop (length (a .bytes)) area
+written a area = sets area 0 (recordOf a)
 
 -- What a request with the bytes s and an answer area returns.
 unfoldable pub outcome : Timetable → List ℕ → List ℕ → Outcome

@@ -2,16 +2,16 @@
 use lib.ListN.{getD, length}
 use mathlib.Core.List.{List}
 use mathlib.Core.Logic.{_⊎_}
-use mathlib.Core.Option.{none, some}
 use mathlib.Core.Path.{_≡_}
 use Prim.Native.Nat.{ℕ, suc, _+_, _≤_, _<_}
 use Rattle.change.specs.declared.Outcome.{Outcome}
-use Rattle.change.specs.Refused.{Refuses}
+use Rattle.change.specs.Refused.{StagesSay}
 use Rattle.placement.specs.Any.{NoPlacement}
 use Rattle.placement.specs.RuleFour.{ByRuleFour}
 use Rattle.records.specs.AnswerForm.{AnswerStands}
 use Rattle.records.specs.declared.ReadRequest.{ReadRequest}
 use Rattle.numbers.specs.declared.Refusal.{Refusal}
+use Rattle.numbers.specs.declared.Verdict.the-variants.{Passed, Refused}
 use Rattle.records.specs.declared.Request.{Request}
 use Rattle.numbers.specs.Numbers.{ACCEPTED, NO-SCHEDULE}
 use Rattle.records.specs.Reads.{RequestRead}
@@ -86,11 +86,11 @@ refusedWith t number place tries = record { number = number; place = place; trie
 -- What the bytes s of a request get from a timetable and an area: the outcome, and the area afterwards. A refusal leaves the area as it was.
 pub data Gives (t : Timetable) (s before : List ℕ) : Outcome → List ℕ → Type 0 where
   -- a refusal before the search
-  early : (read : ReadRequest) → RequestRead s read → (x : Refusal) → Refuses t read (length before) (some x)
+  early : (read : ReadRequest) → RequestRead s read → (x : Refusal) → StagesSay t read (length before) (Refused x)
       → Gives t s before (refusedWith t (x .number) (x .place) 0) before
   -- a schedule
-  schedule : (read : ReadRequest) → RequestRead s read → Refuses t read (length before) none → (r : Outcome) (after : List ℕ)
+  schedule : (read : ReadRequest) → RequestRead s read → StagesSay t read (length before) Passed → (r : Outcome) (after : List ℕ)
       → Accepted t (read .request) before r after → Gives t s before r after
   -- the refusal for want of a schedule, with a try for each length passed over
-  wanting : (read : ReadRequest) → RequestRead s read → Refuses t read (length before) none → (n : ℕ) → Wanting t (read .request) n
+  wanting : (read : ReadRequest) → RequestRead s read → StagesSay t read (length before) Passed → (n : ℕ) → Wanting t (read .request) n
       → Gives t s before (refusedWith t NO-SCHEDULE 0 (suc n)) before

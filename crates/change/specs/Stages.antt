@@ -1,16 +1,18 @@
 -- Document 01, "What each number says": the stages before the search, in their order. The lowest stage wins.
 use lib.Dec.{eqb, ltb}
 use lib.ListN.{replicate}
-use mathlib.Core.Bool.{cond, not, _&&_}
-use mathlib.Core.List.{List}
-use mathlib.Core.Option.{Option, none, some}
-use Prim.Native.Nat.{ℕ, zero, suc, _+_}
+use mathlib.Core.Bool.{Bool, cond, not, _&&_}
+use mathlib.Core.List.{List, [], _∷_, _++_}
+use mathlib.Core.Option.{Option}
+use Prim.Native.Nat.{ℕ, zero, suc, _+_, _-_}
+use Rattle.numbers.specs.Chain.{refusedIf, refusedAt, firstOf}
+use Rattle.numbers.specs.declared.Verdict.{Verdict}
+use Rattle.numbers.specs.declared.Verdict.the-variants.{Passed, Refused}
+use Rattle.numbers.specs.Numbers.{NOT-SOUND, SMALL-AREA, TOO-EARLY, OVERFULL, BEHIND}
 use Rattle.records.specs.declared.Ask.{Ask}
-use Rattle.records.specs.declared.Reading.the-variants.{Whole, Refused}
+use Rattle.records.specs.declared.Reading.the-variants.{Whole, Refused as unread}
 use Rattle.records.specs.declared.ReadRequest.{ReadRequest}
-use Rattle.numbers.specs.declared.Refusal.{Refusal}
 use Rattle.records.specs.declared.Request.{Request}
-use Rattle.numbers.specs.Numbers.{NOT-SOUND, SMALL-AREA, TOO-EARLY, OVERFULL, BEHIND, refusal}
 use Rattle.records.specs.Request.{askOf, isAsked}
 use Rattle.slots.specs.Below.{first}
 use Rattle.slots.specs.declared.CoreSlot.{CoreSlot}
@@ -19,22 +21,22 @@ use Rattle.slots.specs.Shortfall.{keeps}
 use Rattle.timetable.specs.declared.Entry.{Entry}
 use Rattle.timetable.specs.declared.Timetable.{Timetable}
 use Rattle.timetable.specs.Sound.{isSound}
-use Rattle.timetable.specs.Timetable.{noEntry, entryOf, isListed, weight, startShortfall, each}
+use Rattle.timetable.specs.Timetable.{noEntry, entryOf, isListed, weight, entersWith, each}
 
 -- The bound that is asked: R, or 1 where the field was short.
 unfoldable pub askedBound : Ask → ℕ
 askedBound a = cond (eqb (a .bound) 0) 1 (a .bound)
 
--- The entry of id i at the request slot: the new weight and R are in force from there on; one that is not asked for is forgotten.
-unfoldable pub startEntry : Timetable → CoreSlot → ℕ → Ask → Entry
-startEntry t slot i ask =
+-- The entry with which an id enters a change n slots after the base: the new weight and R are in force from there on; one that is not asked for is forgotten.
+unfoldable pub entering : Entry → ℕ → Ask → Entry
+entering old n ask =
     cond (isAsked ask)
-    (record { period = ask .period; offset = 0; bound = askedBound ask; shortfall = startShortfall t slot i })
+    (record { period = ask .period; offset = 0; bound = askedBound ask; shortfall = entersWith old n })
     noEntry
 
 -- The entries at the request slot.
 unfoldable pub startEntries : Timetable → CoreSlot → List Ask → List Entry
-startEntries t slot asks = each (λ i e. startEntry t slot i (askOf asks i)) IDS (replicate IDS noEntry)
+startEntries t slot asks = each (λ i e. entering (entryOf (t .entries) i) (slot .0 - t .base .0) (askOf asks i)) IDS (replicate IDS noEntry)
 
 -- The running sum of the weights, ids rising: those below n.
 unfoldable pub weightSum : List Entry → ℕ → ℕ
@@ -45,28 +47,46 @@ weightSum es (suc n) = weightSum es n + weight (entryOf es n)
 unfoldable pub overfull : List Entry → Option ℕ
 overfull es = first IDS (λ i. ltb WHOLE (weightSum es (suc i)))
 
+-- A listed entry's shortfall is not below 256 R.
+unfoldable pub isBehind : Entry → Bool
+isBehind e = isListed e && not (keeps (e .bound) (e .shortfall))
+
 -- The lowest id whose shortfall at the request slot is not below 256 x new R.
 unfoldable pub behind : List Entry → Option ℕ
-behind es = first IDS (λ i. isListed (entryOf es i) && not (keeps (entryOf es i .bound) (entryOf es i .shortfall)))
+behind es = first IDS (λ i. isBehind (entryOf es i))
 
--- Stage 8.
-unfoldable pub stageBehind : List Entry → Option Refusal
-stageBehind es = elim (behind es) [ none ↦ none | some i ↦ some (refusal BEHIND i) ]
+-- 1: the timetable is not sound.
+unfoldable pub stageSound : Timetable → Verdict
+stageSound t = refusedIf (not (isSound t)) NOT-SOUND
 
--- Stage 7, and those after it.
-unfoldable pub stageOverfull : List Entry → Option Refusal
-stageOverfull es = elim (overfull es) [ none ↦ stageBehind es | some i ↦ some (refusal OVERFULL i) ]
+-- 2: the answer area is under 231 bytes.
+unfoldable pub stageArea : ℕ → Verdict
+stageArea area = refusedIf (ltb area AREA) SMALL-AREA
 
--- Stage 6, and those after it: a request is too early if its slot is before the base.
-unfoldable pub stageEarly : Timetable → Request → Option Refusal
-stageEarly t r = cond (ltb (r .slot .0) (t .base .0)) (some (refusal TOO-EARLY 0)) (stageOverfull (startEntries t (r .slot) (r .asks)))
+-- 3, 4 and 5: the fields from left to right, as they were read.
+unfoldable pub stageFields : ReadRequest → Verdict
+stageFields read = elim (read .reading) [ Whole ↦ Passed | unread r ↦ Refused r ]
 
--- The fields from left to right, and the stages after them.
-unfoldable pub stageFields : Timetable → ReadRequest → Option Refusal
-stageFields t read = elim (read .reading) [ Whole ↦ stageEarly t (read .request) | Refused r ↦ some r ]
+-- 6: the slot is before the base.
+unfoldable pub stageEarly : Timetable → Request → Verdict
+stageEarly t r = refusedIf (ltb (r .slot .0) (t .base .0)) TOO-EARLY
 
--- The refusal of a request, as it was read, before the search, or none: an unsound timetable, a small area, then the fields, then 6, 7 and 8.
-unfoldable pub refusalBefore : Timetable → ReadRequest → ℕ → Option Refusal
-refusalBefore t read area =
-    cond (not (isSound t)) (some (refusal NOT-SOUND 0))
-    (cond (ltb area AREA) (some (refusal SMALL-AREA 0)) (stageFields t read))
+-- 7: the weights sum above 256.
+unfoldable pub stageOverfull : List Entry → Verdict
+stageOverfull es = refusedAt OVERFULL (overfull es)
+
+-- 8: a shortfall at the request slot is not below 256 x new R.
+unfoldable pub stageBehind : List Entry → Verdict
+stageBehind es = refusedAt BEHIND (behind es)
+
+-- The stages that need no entries, in their order.
+unfoldable pub stagesFirst : Timetable → ReadRequest → ℕ → List Verdict
+stagesFirst t read area = stageSound t ∷ stageArea area ∷ stageFields read ∷ stageEarly t (read .request) ∷ []
+
+-- The stages after them, over the entries at the request slot.
+unfoldable pub stagesListed : List Entry → List Verdict
+stagesListed es = stageOverfull es ∷ stageBehind es ∷ []
+
+-- What a request, as it was read, gets before the search.
+unfoldable pub verdictBefore : Timetable → ReadRequest → ℕ → Verdict
+verdictBefore t read area = firstOf (stagesFirst t read area ++ stagesListed (startEntries t (read .request .slot) (read .request .asks)))

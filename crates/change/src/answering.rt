@@ -1,10 +1,12 @@
-// What a request gets: the answer of a search, or a refusal, which hands back the timetable as given and touches no byte of the area.
+// The answer of a search or of a refusal, and its record written to the area. A refusal hands back the timetable as given and touches no byte.
 ghost use lib.ListN.{length};
 ghost use mathlib.Core.Path.{_≡_};
 ghost use Prim.Native.Nat.{_≤_};
 ghost use Rattle.change.specs.Change.{newTimetable, answerOf, refuse, outcomeOf, written};
-ghost use Rattle.change.specs.Coded.{acceptedAs, Holds};
-ghost use Rattle.slots.specs.Limits.{AREA, LAST-SLOT, LONGEST};
+ghost use Rattle.change.specs.Coded.{GoesInto, Holds};
+ghost use Rattle.numbers.specs.Numbers.{NO-SCHEDULE};
+ghost use Rattle.slots.specs.Limits.{LAST-SLOT, LONGEST};
+use crate::Answer;
 use crate::Outcome;
 use numbers::Refusal;
 use records::Request;
@@ -15,48 +17,34 @@ use transition::Plan;
 use transition::Searched;
 
 // A refusal before the search.
-pub fn refuse(t: Timetable, r: Refusal) -> Outcome
-    ensures { λ o. ⌜ o ≡ outcomeOf (refuse t r) ⌝ }
+pub fn refuse(t: Timetable, r: Refusal) -> Answer
+    ensures { λ o. ⌜ o ≡ refuse t r ⌝ }
 {
-    Outcome {
+    Answer {
         number: r.number,
         place: r.place,
         tries: 0,
-        written: 0,
         timetable: t,
     }
 }
 
-// The answer of a search: the new timetable and its record, or the refusal for want of a schedule.
-pub fn finish(t: Timetable, asked: Request, found: Searched, area: &mut [u8]) -> Outcome
-    requires { ⌜ (AREA ≤ length (now area)) × Holds asked found ⌝ }
-    ensures { λ r. ⌜ (r ≡ outcomeOf (answerOf t asked found)) × (now (area .exit) ≡ written (answerOf t asked found) (now (area .entry))) ⌝ }
+// The answer of a search: the new timetable, or the refusal for want of a schedule.
+pub fn finish(t: Timetable, asked: Request, found: Searched) -> Answer
+    requires { ⌜ Holds asked found ⌝ }
+    ensures { λ r. ⌜ r ≡ answerOf t asked found ⌝ }
 {
     let ending = found.ending;
     let tries = found.tries;
     let plan = found.plan;
     match ending {
-        Ending::Found(n) => accept(asked, n, tries, plan, area),
+        Ending::Found(n) => Answer {
+            number: Refusal::ACCEPTED,
+            place: 0,
+            tries,
+            timetable: new_timetable(asked, n, plan),
+        },
         Ending::Missed(_) => no_schedule(t, tries),
         Ending::Exhausted(_) => no_schedule(t, tries),
-    }
-}
-
-// The new timetable, and its record in the area.
-fn accept(asked: Request, n: u8, tries: u8, plan: Plan, area: &mut [u8]) -> Outcome
-    requires { ⌜ (AREA ≤ length (now area)) × (n ≤ LONGEST) × (asked .slot .0 ≤ LAST-SLOT) ⌝ }
-    ensures { λ r. ⌜ (r ≡ outcomeOf (acceptedAs asked n tries plan)) × (now (area .exit) ≡ written (acceptedAs asked n tries plan) (now (area .entry))) ⌝ }
-{
-    let owners = plan.owners;
-    let entries = plan.entries;
-    let bytes = records::write::write_answer(area, n, owners, entries);
-    let timetable = new_timetable(asked, n, plan);
-    Outcome {
-        number: Refusal::ACCEPTED,
-        place: 0,
-        tries,
-        written: bytes,
-        timetable,
     }
 }
 
@@ -79,14 +67,34 @@ fn new_timetable(asked: Request, n: u8, plan: Plan) -> Timetable
 }
 
 // No length up to T gives a schedule.
-fn no_schedule(t: Timetable, tries: u8) -> Outcome
-    ensures { λ r. ⌜ r ≡ record { number = 9; place = 0; tries = tries; written = 0; timetable = t } ⌝ }
+fn no_schedule(t: Timetable, tries: u8) -> Answer
+    ensures { λ r. ⌜ r ≡ record { number = NO-SCHEDULE; place = 0; tries = tries; timetable = t } ⌝ }
 {
-    Outcome {
+    Answer {
         number: Refusal::NO_SCHEDULE,
         place: 0,
         tries,
-        written: 0,
         timetable: t,
+    }
+}
+
+// An answer as it is returned: its record, if it has one, stands in the area.
+pub fn write(a: Answer, area: &mut [u8]) -> Outcome
+    requires { ⌜ GoesInto a (length (now area)) ⌝ }
+    ensures { λ r. ⌜ (r ≡ outcomeOf a) × (now (area .exit) ≡ written a (now (area .entry))) ⌝ }
+{
+    let timetable = a.timetable;
+    let mut bytes = 0;
+    if a.number == Refusal::ACCEPTED {
+        let owners = timetable.owners;
+        let entries = timetable.entries;
+        bytes = records::write::write_answer(area, timetable.length, owners, entries);
+    }
+    Outcome {
+        number: a.number,
+        place: a.place,
+        tries: a.tries,
+        written: bytes,
+        timetable,
     }
 }

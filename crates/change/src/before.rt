@@ -3,12 +3,12 @@ ghost use mathlib.Core.Bool.{true};
 ghost use mathlib.Core.Path.{_≡_};
 ghost use Prim.Native.Nat.{_≤_};
 ghost use Rattle.change.specs.Change.{startPlan};
-ghost use Rattle.change.specs.Coded.{lowestOf, readingOf, refusalFirst, entering, isBehind};
-ghost use Rattle.change.specs.Stages.{askedBound, overfull, behind, stageOverfull};
+ghost use Rattle.change.specs.Stages.{askedBound, entering, isBehind, stageOverfull, stageBehind, stagesFirst, stagesListed};
+ghost use Rattle.numbers.specs.Chain.{firstOf};
 ghost use Rattle.timetable.specs.Sound.{entryInRange, isSound};
 ghost use Rattle.timetable.specs.Timetable.{isListed};
-use crate::Lowest;
 use numbers::Refusal;
+use numbers::Verdict;
 use records::Ask;
 use records::ReadRequest;
 use records::Reading;
@@ -17,25 +17,25 @@ use timetable::Entry;
 use timetable::Timetable;
 use transition::Plan;
 
-// The refusal of a request, as it was read, by the stages that need no entries: 1, 2, the fields and 6; or that it passes them.
-pub fn refusal_first(t: Timetable, read: ReadRequest, area: usize) -> Reading
-    ensures { λ r. ⌜ r ≡ readingOf (refusalFirst t read area) ⌝ }
+// The stages that need no entries: 1, 2, the fields and 6.
+pub fn verdict_first(t: Timetable, read: ReadRequest, area: usize) -> Verdict
+    ensures { λ r. ⌜ r ≡ firstOf (stagesFirst t read area) ⌝ }
 {
     if !t.is_sound() {
-        return Reading::Refused(Refusal::of(Refusal::NOT_SOUND, 0));
+        return Verdict::Refused(Refusal::of(Refusal::NOT_SOUND, 0));
     }
     if area < Timetable::AREA {
-        return Reading::Refused(Refusal::of(Refusal::SMALL_AREA, 0));
+        return Verdict::Refused(Refusal::of(Refusal::SMALL_AREA, 0));
     }
     let reading = read.reading;
     if let Reading::Refused(r) = reading {
-        return Reading::Refused(r);
+        return Verdict::Refused(r);
     }
     let asked = read.request;
     if asked.slot.0 < t.base.0 {
-        return Reading::Refused(Refusal::of(Refusal::TOO_EARLY, 0));
+        return Verdict::Refused(Refusal::of(Refusal::TOO_EARLY, 0));
     }
-    Reading::Whole
+    Verdict::Passed
 }
 
 // The plan of length 0: no transition slot, and each id's entry with its shortfall at the request slot.
@@ -45,12 +45,7 @@ pub fn start_plan(t: Timetable, asked: Request) -> Plan
     ensures { λ r. ⌜ r ≡ startPlan t asked ⌝ }
 {
     let elapsed = asked.slot.0 - t.base.0;
-    let none = Entry {
-        period: 0,
-        offset: 0,
-        bound: 0,
-        shortfall: 0,
-    };
+    let none = Entry::none();
     let mut entries = [none; Timetable::IDS];
     let mut id: usize = 0;
     while id < Timetable::IDS {
@@ -65,17 +60,14 @@ pub fn start_plan(t: Timetable, asked: Request) -> Plan
     }
 }
 
-// The refusal by stages 7 and 8, over the entries at the request slot; or that they pass.
-pub fn refusal_listed(entries: [Entry; Timetable::IDS]) -> Reading
-    ensures { λ r. ⌜ r ≡ readingOf (stageOverfull entries) ⌝ }
+// Stages 7 and 8, over the entries at the request slot.
+pub fn verdict_listed(entries: [Entry; Timetable::IDS]) -> Verdict
+    ensures { λ r. ⌜ r ≡ firstOf (stagesListed entries) ⌝ }
 {
-    if let Lowest::Id(id) = overfull(entries) {
-        return Reading::Refused(Refusal::of(Refusal::OVERFULL, id));
+    if let Verdict::Refused(r) = overfull(entries) {
+        return Verdict::Refused(r);
     }
-    if let Lowest::Id(id) = behind(entries) {
-        return Reading::Refused(Refusal::of(Refusal::BEHIND, id));
-    }
-    Reading::Whole
+    behind(entries)
 }
 
 // The entry with which an id enters the change: the new period and bound, with the shortfall that it has; nothing where it is not asked for.
@@ -84,12 +76,7 @@ fn enter(old: Entry, elapsed: u64, ask: Ask) -> Entry
     ensures { λ r. ⌜ r ≡ entering old elapsed ask ⌝ }
 {
     if ask.period == 0 {
-        return Entry {
-            period: 0,
-            offset: 0,
-            bound: 0,
-            shortfall: 0,
-        };
+        return Entry::none();
     }
     let mut shortfall = 0;
     if old.is_listed() {
@@ -113,9 +100,9 @@ fn asked_bound(ask: Ask) -> u8
     ask.bound
 }
 
-// The id at which the running sum of the weights, ids rising, first passes 256.
-fn overfull(entries: [Entry; Timetable::IDS]) -> Lowest
-    ensures { λ r. ⌜ r ≡ lowestOf (overfull entries) ⌝ }
+// Stage 7: it names the id at which the running sum of the weights, ids rising, first passes 256.
+fn overfull(entries: [Entry; Timetable::IDS]) -> Verdict
+    ensures { λ r. ⌜ r ≡ stageOverfull entries ⌝ }
 {
     let mut sum: u64 = 0;
     let mut id: usize = 0;
@@ -123,26 +110,26 @@ fn overfull(entries: [Entry; Timetable::IDS]) -> Lowest
         let e = entries[id];
         sum += e.weight() as u64;
         if (Timetable::WHOLE as u64) < sum {
-            return Lowest::Id(id);
+            return Verdict::Refused(Refusal::of(Refusal::OVERFULL, id));
         }
         id += 1;
     }
-    Lowest::Nobody
+    Verdict::Passed
 }
 
-// The lowest listed id whose shortfall is not below 256 R.
-fn behind(entries: [Entry; Timetable::IDS]) -> Lowest
-    ensures { λ r. ⌜ r ≡ lowestOf (behind entries) ⌝ }
+// Stage 8: it names the lowest listed id whose shortfall is not below 256 R.
+fn behind(entries: [Entry; Timetable::IDS]) -> Verdict
+    ensures { λ r. ⌜ r ≡ stageBehind entries ⌝ }
 {
     let mut id: usize = 0;
     while id < Timetable::IDS {
         let e = entries[id];
         if is_behind(e) {
-            return Lowest::Id(id);
+            return Verdict::Refused(Refusal::of(Refusal::BEHIND, id));
         }
         id += 1;
     }
-    Lowest::Nobody
+    Verdict::Passed
 }
 
 // Whether a listed entry's shortfall is not below 256 R.

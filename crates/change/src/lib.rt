@@ -1,15 +1,23 @@
 // The change of a timetable by a request, and the two queries. Nothing is assumed checked: bad input is refused by number.
 ghost use mathlib.Core.Path.{_≡_};
-ghost use Rattle.change.specs.Change.{outcome, areaAfter};
-use records::Reading;
+ghost use Rattle.change.specs.Change.{answer, outcome, areaAfter};
+use numbers::Verdict;
 use slots::SliceCount;
 use timetable::Timetable;
 
-mod answering; // answering.rt: what a request gets after the search
+mod answering; // answering.rt: the answer after the search, and how it is written
 pub mod queries; // queries.rt: the owner query and the standing query
 mod before; // before.rt: the stages before the search
 
-// What a request gets: document 01's number and place, the lengths searched, the bytes written, and the timetable now in force.
+// What is decided of a request: document 01's number and place, the lengths searched, and the timetable in force from now on.
+pub struct Answer {
+    pub number: u8,
+    pub place: usize,
+    pub tries: u8,
+    pub timetable: Timetable,
+}
+
+// What a request gets: its answer, with the bytes written.
 pub struct Outcome {
     pub number: u8,
     pub place: usize,
@@ -33,28 +41,30 @@ pub struct StandingAnswer {
     pub slices: SliceCount,
 }
 
-// The lowest id that a stage names, or that it names nobody.
-pub enum Lowest {
-    Id(usize),
-    Nobody,
-}
-
 // A timetable is changed by a request: the transition and cyclic slots of document 01's rules, written to the answer area, or a refusal that leaves both.
 pub fn change(t: Timetable, request: &[u8], area: &mut [u8]) -> Outcome
     ensures { λ r. ⌜ (r ≡ outcome t (now (request .entry)) (now (area .entry))) × (now (area .exit) ≡ areaAfter t (now (request .entry)) (now (area .entry))) ⌝ }
 {
+    let decided = decide(t, request, area.len());
+    answering::write(decided, area)
+}
+
+// The answer to a request with an answer area of a given size. No byte is written: what is decided can still be dropped.
+pub fn decide(t: Timetable, request: &[u8], area: usize) -> Answer
+    ensures { λ r. ⌜ r ≡ answer t (now (request .entry)) area ⌝ }
+{
     let read = records::read::read_request(request);
-    let first = before::refusal_first(t, read, area.len());
-    if let Reading::Refused(r) = first {
+    let first = before::verdict_first(t, read, area);
+    if let Verdict::Refused(r) = first {
         return answering::refuse(t, r);
     }
     let asked = read.request;
     let plan = before::start_plan(t, asked);
     let entries = plan.entries;
-    let listed = before::refusal_listed(entries);
-    if let Reading::Refused(r) = listed {
+    let listed = before::verdict_listed(entries);
+    if let Verdict::Refused(r) = listed {
         return answering::refuse(t, r);
     }
     let found = transition::lengths::search(plan, asked.limit);
-    answering::finish(t, asked, found, area)
+    answering::finish(t, asked, found)
 }

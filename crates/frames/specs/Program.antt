@@ -4,7 +4,8 @@ use lib.ListN.{drop, getD, length, take}
 use mathlib.Core.Bool.{Bool, true, false, cond, _&&_}
 use mathlib.Core.List.{List, [], _∷_, _++_}
 use Prim.Native.Nat.{ℕ, zero, suc, _+_, _/_, _%_}
-use Rattle.change.specs.Change.{Answer, answer}
+use Rattle.change.specs.Change.{answer}
+use Rattle.change.specs.declared.Answer.{Answer}
 use Rattle.numbers.specs.Numbers.{ACCEPTED}
 use Rattle.records.specs.Request.{lengthAt}
 use Rattle.slots.specs.Limits.{AREA}

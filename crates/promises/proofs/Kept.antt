@@ -1,28 +1,28 @@
 -- Each promise of specs/Promises.antt, kept. Assumes nothing.
 use borrow.Author.Tests.{le-ltb, lt-leb}
-use lib.ListN.{drop, getD, length, length-append, length-drop}
-use lib.Seq.{getD-append-add, getD-drop}
+use lib.ListN.{length}
+use lib.Seq.{length-sets, sets}
 use mathlib.Core.Bool.{true}
-use mathlib.Core.List.{List, [], _++_}
+use mathlib.Core.List.{List}
 use mathlib.Core.Logic.{_≢_}
 use mathlib.Core.Option.{Option, none, some}
 use mathlib.Core.Path.{_≡_, refl, sym, ap, ap₂, _∙_, subst}
-use native.Mathlib.Nat.{add-sub-of-le}
 use native.Mathlib.Omega.{arith}
 use Prim.Native.Nat.{ℕ, suc, _+_, _-_, _*_, _≤_}
-use Rattle.change.proofs.Answers.{Gets, refused, accepted, no-slot, no-length, gets, accepted-continues}
+use Rattle.change.proofs.Answers.{Gets, refused, accepted, no-slot, no-length, gets, accepted-continues, record-accepted, record-none}
 use Rattle.change.proofs.Histories.{history-valid}
 use Rattle.change.proofs.GivenLaws.{at-request, gives}
 use Rattle.change.proofs.OneGiven.{gives-one}
 use Rattle.change.proofs.QueriedLaws.{owner-given, owner-only, standing-given, standing-only}
-use Rattle.change.proofs.Stages.{stages, stages-only}
-use Rattle.change.specs.Change.{Answer, answer, answerTo, answerOf, outcome, areaAfter, refuse, searchOf, startPlan}
+use Rattle.change.proofs.Stages.{stages}
+use Rattle.change.specs.Change.{answer, answerTo, answerOf, outcome, areaAfter, recordOf, refuse, searchOf, startPlan}
 use Rattle.change.specs.Controller.{historyOf}
+use Rattle.change.specs.declared.Answer.{Answer}
 use Rattle.change.specs.declared.Outcome.{Outcome}
 use Rattle.change.specs.Given.{Gives, early, refusedWith, schedule, wanting}
 use Rattle.change.specs.Queries.{ownerQuery, standing, standingQuery}
-use Rattle.change.specs.Refused.{Refuses, passes}
-use Rattle.change.specs.Stages.{refusalBefore}
+use Rattle.change.specs.Refused.{StagesSay}
+use Rattle.change.specs.Stages.{verdictBefore}
 use Rattle.placement.proofs.Complete.{placement-none, placement-some}
 use Rattle.placement.specs.Any.{CyclicPlacement}
 use Rattle.placement.specs.Placement.{Place, placement}
@@ -33,8 +33,11 @@ use Rattle.records.proofs.OneForm.{one-form}
 use Rattle.records.proofs.ReadLaws.{read-in-range, refused-in-range}
 use Rattle.records.proofs.ReadSteps.{request-read, request-is}
 use Rattle.records.proofs.RoundTrip.{round-trip}
+use Rattle.records.proofs.SetsLaws.{sets-rest}
 use Rattle.records.specs.declared.ReadRequest.{ReadRequest}
 use Rattle.numbers.specs.declared.Refusal.{Refusal}
+use Rattle.numbers.specs.declared.Verdict.{Verdict}
+use Rattle.numbers.specs.declared.Verdict.the-variants.{Passed, Refused}
 use Rattle.numbers.specs.Numbers.{ACCEPTED, NO-SCHEDULE}
 use Rattle.records.specs.Reads.{RequestRead}
 use Rattle.records.specs.Request.{readRequest}
@@ -60,28 +63,24 @@ use Rattle.transition.specs.Reach.{isSearched}
 -- ---- 1
 
 -- What a request gets, as far as the area and the timetable go.
-record Held (t : Timetable) (area : ℕ) (a : Answer) : Type 0 where
-  short : length (a .bytes) ≤ AREA
-  fits : length (a .bytes) ≤ area
-  refused : a .number ≢ ACCEPTED → (a .timetable ≡ t) × (a .bytes ≡ [])
+record Held (t : Timetable) (a : Answer) : Type 0 where
+  short : length (recordOf a) ≤ AREA
+  refused : a .number ≢ ACCEPTED → a .timetable ≡ t
 
--- A request that passes has a large enough area.
-area-enough : (t : Timetable) (read : ReadRequest) (area : ℕ) → refusalBefore t read area ≡ none → AREA ≤ area
-area-enough t read area e = at (subst (Refuses t read area) e (stages t read area))
-  where
-    at : Refuses t read area none → AREA ≤ area
-    at (passes s a w l f g) = a
-
-held : (t : Timetable) (s : List ℕ) (area : ℕ) → Held t area (answer t s area)
+held : (t : Timetable) (s : List ℕ) (area : ℕ) → Held t (answer t s area)
 held t s area = at (answer t s area) (gets t s area)
   where
-    at : (a : Answer) → Gets t s area a → Held t area a
-    at a (refused q e l h) = record { short = omega arith; fits = omega arith; refused = λ n. (refl, refl) }
-    at a (accepted e p k l b q h ps f) =
-        let m = answer-length k (q .owners) _ (omega (arith, p .range .limit)) in
-        record { short = m; fits = omega (arith, area-enough t (readRequest s) area e); refused = λ n. absurd (n refl) }
-    at a (no-slot e p k l b q h f) = record { short = omega arith; fits = omega arith; refused = λ n. (refl, refl) }
-    at a (no-length e p b) = record { short = omega arith; fits = omega arith; refused = λ n. (refl, refl) }
+    nothing : (a : Answer) → a .number ≢ ACCEPTED → length (recordOf a) ≤ AREA
+    nothing a n = rw (record-none a n) (omega arith)
+
+    at : (a : Answer) → Gets t s area a → Held t a
+    at a (refused q e l h) = record { short = nothing a (λ z. omega (arith, z)); refused = λ n. refl }
+    at a (accepted e p k l b q h ps f) = record {
+      short = rw (record-accepted a refl) (answer-length k _ _ (omega (arith, p .range .limit)));
+      refused = λ n. absurd (n refl);
+    }
+    at a (no-slot e p k l b q h f) = record { short = nothing a (λ z. omega arith); refused = λ n. refl }
+    at a (no-length e p b) = record { short = nothing a (λ z. omega arith); refused = λ n. refl }
 
 pub sound-stays : SoundStays
 unfolding outcome areaAfter
@@ -89,22 +88,12 @@ sound-stays = record {
   empty = empty-sound;
   accepted = λ t s area e. sound-is _ (accepted-continues t s (length area) e .sound);
   refused = λ t s area n.
-      let h = held t s (length area) .refused n in
-      (h .0, ap length (h .1), ap (λ (bs : List ℕ). bs ++ drop (length bs) area) (h .1));
+      let e = record-none (answer t s (length area)) n in
+      (held t s (length area) .refused n, ap (λ (bs : List ℕ). length bs) e, ap (sets area 0) e);
   short = λ t s area. held t s (length area) .short;
-  size = λ t s area.
-      length-append (answer t s (length area) .bytes) _
-      ∙ omega (arith, length-drop (length (answer t s (length area) .bytes)) area, held t s (length area) .fits);
-  rest = λ t s area n l. after (answer t s (length area) .bytes) area n l;
+  size = λ t s area. length-sets area 0 (recordOf (answer t s (length area)));
+  rest = λ t s area n l. sets-rest area 0 n (recordOf (answer t s (length area))) (omega arith);
 }
-  where
-    after : (bs area : List ℕ) (n : ℕ) → length bs ≤ n → getD (bs ++ drop (length bs) area) n 0 ≡ getD area n 0
-    after bs area n l =
-        let m : ℕ = n - length bs in
-        ap (λ (x : ℕ). getD (bs ++ drop (length bs) area) x 0) (sym (add-sub-of-le l))
-        ∙ getD-append-add bs (drop (length bs) area) m 0
-        ∙ getD-drop (length bs) area m 0
-        ∙ ap (λ (x : ℕ). getD area x 0) (add-sub-of-le l)
 
 -- ---- 2 and 3
 
@@ -134,14 +123,14 @@ placement-complete = record {
 -- ---- 5 and 6
 
 -- A refusal that document 01 gives before the search is the outcome.
-refused-so : (t : Timetable) (s area : List ℕ) (read : ReadRequest) → RequestRead s read → (x : Refusal) → Refuses t read (length area) (some x)
+refused-so : (t : Timetable) (s area : List ℕ) (read : ReadRequest) → RequestRead s read → (x : Refusal) → StagesSay t read (length area) (Refused x)
     → (outcome t s area ≡ refusedWith t (x .number) (x .place) 0) × (areaAfter t s area ≡ area)
 refused-so t s area read e x p =
     gives-one t s area (outcome t s area) (refusedWith t (x .number) (x .place) 0) (areaAfter t s area) area (gives t s area) (early read e x p)
 
 -- A request that passes gets no refusal before the search.
-no-refusal : (t : Timetable) (s : List ℕ) (area : ℕ) → Passes t s area → refusalBefore t (readRequest s) area ≡ none
-no-refusal t s area p = stages-only t (readRequest s) area none p
+no-refusal : (t : Timetable) (s : List ℕ) (area : ℕ) → Passes t s area → verdictBefore t (readRequest s) area ≡ Passed
+no-refusal t s area p = stages t (readRequest s) area .only Passed p
 
 pub shortest : Shortest
 unfolding outcome
@@ -153,9 +142,9 @@ shortest t s area p =
 searched : (t : Timetable) (s area : List ℕ) → Passes t s (length area) → outcome t s area .tries ≡ searchOf t (readRequest s .request) .tries
 unfolding outcome answer answerTo answerOf
 searched t s area p =
-    ap (λ (o : Option Refusal). (elim o as (λ _. Answer) [
-      | none ↦ answerOf t (readRequest s .request) (searchOf t (readRequest s .request))
-      | some r ↦ refuse t r
+    ap (λ (v : Verdict). (elim v as (λ _. Answer) [
+      | Passed ↦ answerOf t (readRequest s .request) (searchOf t (readRequest s .request))
+      | Refused r ↦ refuse t r
     ]) .tries) (no-refusal t s (length area) p)
 
 pub tries : Tries
@@ -184,9 +173,9 @@ stages-kept = record {
 }
   where
     only : (t : Timetable) (s area : List ℕ) (read : ReadRequest) → RequestRead s read → (r : Outcome) (out : List ℕ) → Gives t s area r out
-        → r .number ≢ ACCEPTED → r .number ≢ NO-SCHEDULE → Refuses t read (length area) (some (record { number = r .number; place = r .place }))
+        → r .number ≢ ACCEPTED → r .number ≢ NO-SCHEDULE → StagesSay t read (length area) (Refused (record { number = r .number; place = r .place }))
     only t s area read e r out (early a d x p) n m =
-        subst (λ (y : ReadRequest). Refuses t y (length area) (some x)) (sym (request-is s a d) ∙ request-is s read e) p
+        subst (λ (y : ReadRequest). StagesSay t y (length area) (Refused x)) (sym (request-is s a d) ∙ request-is s read e) p
     only t s area read e r out (schedule a d p u v w) n m = absurd (n (w .number))
     only t s area read e r out (wanting a d p k w) n m = absurd (m refl)
 

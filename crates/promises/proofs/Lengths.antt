@@ -9,14 +9,17 @@ use native.Mathlib.Decide.{decLt}
 use native.Mathlib.Nat.{zero-add}
 use native.Mathlib.Omega.{arith}
 use Prim.Native.Nat.{ℕ, suc, _-_, _≤_, _<_}
-use Rattle.change.proofs.Answers.{Gets, Passes, refused, accepted, no-slot, no-length, gets}
+use Rattle.change.proofs.Answers.{Gets, Admitted, refused, accepted, no-slot, no-length, gets}
 use Rattle.change.proofs.Start.{start-fit}
-use Rattle.change.specs.Change.{Answer, answer, startPlan}
-use Rattle.change.specs.Stages.{refusalBefore}
+use Rattle.change.specs.Change.{answer, startPlan}
+use Rattle.change.specs.declared.Answer.{Answer}
+use Rattle.change.specs.Stages.{verdictBefore}
 use Rattle.placement.proofs.Complete.{placement-none, placement-some}
 use Rattle.placement.specs.Any.{CyclicPlacement}
 use Rattle.placement.specs.Placement.{Place, placement, settle}
+use Rattle.numbers.proofs.ChainLaws.{not-passed}
 use Rattle.numbers.specs.declared.Refusal.{Refusal}
+use Rattle.numbers.specs.declared.Verdict.the-variants.{Passed, Refused}
 use Rattle.records.specs.declared.Request.{Request}
 use Rattle.numbers.specs.Numbers.{ACCEPTED, NO-SCHEDULE}
 use Rattle.records.specs.Request.{readRequest}
@@ -82,26 +85,26 @@ module _ (plan : Plan) (fit : Fit 0 plan) where
 
 -- ---- the answer
 
-module _ (t : Timetable) (s : List ℕ) (area : ℕ) (pass : refusalBefore t (readRequest s) area ≡ none) where
+module _ (t : Timetable) (s : List ℕ) (area : ℕ) (pass : verdictBefore t (readRequest s) area ≡ Passed) where
   abbrev r : Request
   r = readRequest s .request
 
   abbrev plan : Plan
   plan = startPlan t r
 
-  fit : Passes t r → Fit 0 plan
+  fit : Admitted t r area → Fit 0 plan
   fit p = start-fit t r (p .range) (p .fine)
 
   -- A refusal before the search is none of a request that passes.
-  not-refused : (q : Refusal) → refusalBefore t (readRequest s) area ≡ some q → ⊥
-  not-refused q e = let z : _≡_ {A = ℕ} 0 1 = cc in omega arith
+  not-refused : (q : Refusal) → verdictBefore t (readRequest s) area ≡ Refused q → ⊥
+  not-refused q e = not-passed q (sym pass ∙ e)
 
   -- The first k lengths passed over, in demand 3's words.
-  all-passed : Passes t r → (k : ℕ) → k ≤ suc LONGEST → PassedFirst k 0 plan → (m : ℕ) → m < k → PassedOver plan m
+  all-passed : Admitted t r area → (k : ℕ) → k ≤ suc LONGEST → PassedFirst k 0 plan → (m : ℕ) → m < k → PassedOver plan m
   all-passed p k l h m q = let w = h m q in passed-over plan (fit p) m (omega arith) (w .0) (w .1) (w .2)
 
   -- Where the first k lengths are passed over, one with a placement is none of them.
-  none-has : Passes t r → (k : ℕ) → k ≤ suc LONGEST → PassedFirst k 0 plan → (n : ℕ) → n < k → HasPlacement plan n → ⊥
+  none-has : Admitted t r area → (k : ℕ) → k ≤ suc LONGEST → PassedFirst k 0 plan → (n : ℕ) → n < k → HasPlacement plan n → ⊥
   none-has p k l h n q w = let x = h n q in has-not-none plan (fit p) n (omega arith) (x .0) (x .1) (x .2) w
 
   abbrev Accepted : ℕ → Answer → Type 0

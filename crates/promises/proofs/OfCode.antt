@@ -4,7 +4,6 @@ use lib.ListN.{length}
 use mathlib.Core.Bool.{true}
 use mathlib.Core.List.{List, [], _∷_}
 use mathlib.Core.Logic.{_≢_}
-use mathlib.Core.Option.{some}
 use mathlib.Core.Path.{_≡_, refl, sym, ap, _∙_, subst}
 use Prim.Native.Nat.{ℕ}
 use native.Mathlib.Omega.{arith}
@@ -15,12 +14,13 @@ use Rattle.change.specs.Controller.{Sent, send, historyOf}
 use Rattle.change.specs.declared.Outcome.{Outcome}
 use Rattle.change.specs.Given.{Accepted, Gives, early, schedule, wanting}
 use Rattle.change.specs.Queried.{OwnerGiven, StandingGiven}
-use Rattle.change.specs.Refused.{Refuses}
+use Rattle.change.specs.Refused.{StagesSay}
 use Rattle.records.proofs.ReadSteps.{request-is}
 use Rattle.promises.proofs.Kept.{exact, kept-shortfall, one-owner, queries, shortest, sound-stays, stages-kept, windows}
 use Rattle.promises.specs.OfCode.{Meets, Serves, start, accepts, refuses, DemandOne, DemandTwo, DemandThree, DeficitMeans, QueriesOfCode}
 use Rattle.promises.specs.Promises.{QueriesTell, ServesOne, ShortestOf, ShortfallMeans, WindowsKept}
 use Rattle.records.specs.declared.ReadRequest.{ReadRequest}
+use Rattle.numbers.specs.declared.Verdict.the-variants.{Refused}
 use Rattle.numbers.specs.Numbers.{ACCEPTED, NO-SCHEDULE}
 use Rattle.records.specs.Reads.{RequestRead}
 use Rattle.records.specs.Request.{readRequest}
@@ -38,7 +38,7 @@ demand-one = record {
   given = λ t s area r out m read e x p. let k = stages-kept .refused t s area read e x p in (m .0 ∙ k .0, m .1 ∙ k .1);
   only = λ t s area r out m n l read e.
       of-code t s area r out m
-      (λ (o : Outcome) (_ : List ℕ). o .number ≢ ACCEPTED → o .number ≢ NO-SCHEDULE → Refuses t read (length area) (some (record { number = o .number; place = o .place })))
+      (λ (o : Outcome) (_ : List ℕ). o .number ≢ ACCEPTED → o .number ≢ NO-SCHEDULE → StagesSay t read (length area) (Refused (record { number = o .number; place = o .place })))
       (stages-kept .refused-only t s area read e) n l;
   refused = λ t s area r out m.
       of-code t s area r out m (λ (o : Outcome) (a : List ℕ). o .number ≢ ACCEPTED → (o .timetable ≡ t) × (o .written ≡ 0) × (a ≡ area))
@@ -62,7 +62,7 @@ demand-two = record {
         → r .number ≡ ACCEPTED → Accepted t (read .request) area r out
     so t s area read e r out (early a d x p) n =
         absurd
-        (let k = refusal-number t s (length area) x (subst (λ (y : ReadRequest). Refuses t y (length area) (some x)) (sym (request-is s a d)) p) in
+        (let k = refusal-number t s (length area) x (subst (λ (y : ReadRequest). StagesSay t y (length area) (Refused x)) (sym (request-is s a d)) p) in
         omega (arith, k .0, n))
     so t s area read e r out (schedule a d p u v w) n =
         subst (λ (y : ReadRequest). Accepted t (y .request) area u v) (sym (request-is s a d) ∙ request-is s read e) w

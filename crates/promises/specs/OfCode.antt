@@ -3,7 +3,6 @@ use lib.ListN.{length}
 use mathlib.Core.Bool.{true}
 use mathlib.Core.List.{List, [], _∷_}
 use mathlib.Core.Logic.{_↔_, _≢_}
-use mathlib.Core.Option.{none, some}
 use mathlib.Core.Path.{_≡_}
 use Prim.Native.Nat.{ℕ, _-_, _≤_, _<_}
 use Rattle.change.specs.Change.{outcome, areaAfter}
@@ -13,10 +12,11 @@ use Rattle.change.specs.declared.StandingAnswer.{StandingAnswer}
 use Rattle.change.specs.Given.{Accepted, Gives, refusedWith}
 use Rattle.change.specs.Queried.{OwnerGiven, StandingGiven, ownerAnswer, standingAnswer}
 use Rattle.change.specs.Queries.{ownerQuery, standingQuery}
-use Rattle.change.specs.Refused.{Refuses}
+use Rattle.change.specs.Refused.{StagesSay}
 use Rattle.promises.specs.Promises.{Passes, ServesOne, ShortestOf, ShortfallMeans, WindowsKept}
 use Rattle.records.specs.declared.ReadRequest.{ReadRequest}
 use Rattle.numbers.specs.declared.Refusal.{Refusal}
+use Rattle.numbers.specs.declared.Verdict.the-variants.{Passed, Refused}
 use Rattle.numbers.specs.Numbers.{ACCEPTED, NO-SCHEDULE}
 use Rattle.records.specs.Reads.{RequestRead}
 use Rattle.records.specs.Request.{readRequest}
@@ -46,10 +46,10 @@ pub data Serves : History → Type 0 where
 -- no refusal touches a byte of the area or the timetable; an acceptance is sound.
 pub record DemandOne : Type 0 where
   pub given : (t : Timetable) (s area : List ℕ) (r : Outcome) (out : List ℕ) → Meets t s area r out
-      → (read : ReadRequest) → RequestRead s read → (x : Refusal) → Refuses t read (length area) (some x)
+      → (read : ReadRequest) → RequestRead s read → (x : Refusal) → StagesSay t read (length area) (Refused x)
       → (r ≡ refusedWith t (x .number) (x .place) 0) × (out ≡ area)
   pub only : (t : Timetable) (s area : List ℕ) (r : Outcome) (out : List ℕ) → Meets t s area r out → r .number ≢ ACCEPTED → r .number ≢ NO-SCHEDULE
-      → (read : ReadRequest) → RequestRead s read → Refuses t read (length area) (some (record { number = r .number; place = r .place }))
+      → (read : ReadRequest) → RequestRead s read → StagesSay t read (length area) (Refused (record { number = r .number; place = r .place }))
   pub refused : (t : Timetable) (s area : List ℕ) (r : Outcome) (out : List ℕ) → Meets t s area r out → r .number ≢ ACCEPTED
       → (r .timetable ≡ t) × (r .written ≡ 0) × (out ≡ area)
   pub sound : (t : Timetable) (s area : List ℕ) (r : Outcome) (out : List ℕ) → Meets t s area r out → r .number ≡ ACCEPTED
@@ -60,7 +60,7 @@ pub record DemandOne : Type 0 where
 pub record DemandTwo : Type 0 where
   pub accepted : (t : Timetable) (s area : List ℕ) (r : Outcome) (out : List ℕ) → Meets t s area r out → r .number ≡ ACCEPTED
       → (read : ReadRequest) → RequestRead s read → Accepted t (read .request) area r out
-  pub one : (t : Timetable) (s area : List ℕ) (read : ReadRequest) → RequestRead s read → Refuses t read (length area) none
+  pub one : (t : Timetable) (s area : List ℕ) (read : ReadRequest) → RequestRead s read → StagesSay t read (length area) Passed
       → (r r′ : Outcome) (out out′ : List ℕ) → Accepted t (read .request) area r out → Accepted t (read .request) area r′ out′ → (r ≡ r′) × (out ≡ out′)
   pub exactly : (t : Timetable) (s area : List ℕ) (r : Outcome) (out : List ℕ) → Meets t s area r out ↔ Gives t s area r out
 

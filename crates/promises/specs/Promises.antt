@@ -15,13 +15,14 @@ use Rattle.change.specs.declared.StandingAnswer.{StandingAnswer}
 use Rattle.change.specs.Given.{AtRequest, Gives, refusedWith}
 use Rattle.change.specs.Queried.{OwnerGiven, StandingGiven}
 use Rattle.change.specs.Queries.{ownerQuery, standingQuery}
-use Rattle.change.specs.Refused.{Refuses}
+use Rattle.change.specs.Refused.{StagesSay}
 use Rattle.change.specs.Stages.{startEntries}
 use Rattle.placement.specs.Any.{CyclicPlacement, NoPlacement}
 use Rattle.placement.specs.Placement.{Place, placement, settle}
-use Rattle.records.specs.declared.Reading.the-variants.{Whole, Refused}
+use Rattle.records.specs.declared.Reading.the-variants.{Whole, Refused as unread}
 use Rattle.records.specs.declared.ReadRequest.{ReadRequest}
 use Rattle.numbers.specs.declared.Refusal.{Refusal}
+use Rattle.numbers.specs.declared.Verdict.the-variants.{Passed, Refused}
 use Rattle.records.specs.declared.Request.{Request}
 use Rattle.numbers.specs.Numbers.{ACCEPTED, NOT-SOUND, SMALL-AREA, BAD-FIELD, OUT-OF-RANGE, NOT-RISING, TOO-EARLY, OVERFULL, BEHIND, NO-SCHEDULE, NOT-LISTED}
 use Rattle.records.specs.Reads.{Bytes, RequestRange, RefusalRange, RequestRead}
@@ -81,7 +82,7 @@ pub record PlacementComplete : Type 0 where
 
 -- A request, by its bytes, passes the stages before the search.
 abbrev pub Passes : Timetable → List ℕ → ℕ → Type 0
-Passes t s area = Refuses t (readRequest s) area none
+Passes t s area = StagesSay t (readRequest s) area Passed
 
 -- 5. For a request that passes the stages before the search: it is accepted with length n exactly if n is at most T and has a cyclic placement, and every
 -- shorter length is passed over; it is refused for want of a schedule exactly if every length up to T is passed over or can't be reached.
@@ -98,7 +99,7 @@ Shortest = (t : Timetable) (s area : List ℕ) → Passes t s (length area) → 
 -- 6. Tries is the number of lengths up to T whose placement was searched, at most T + 1, and 0 for refusals 1 to 8.
 -- (Shuts out: invented tries; the successful length not counted.)
 pub record Tries : Type 0 where
-  pub before : (t : Timetable) (s area : List ℕ) (x : Refusal) → Refuses t (readRequest s) (length area) (some x) → outcome t s area .tries ≡ 0
+  pub before : (t : Timetable) (s area : List ℕ) (x : Refusal) → StagesSay t (readRequest s) (length area) (Refused x) → outcome t s area .tries ≡ 0
   pub counted : (t : Timetable) (s area : List ℕ) → Passes t s (length area)
       → outcome t s area .tries ≡ count (suc (readRequest s .request .limit)) (isSearched (startPlan t (readRequest s .request)))
   pub few : (t : Timetable) (s area : List ℕ) → Passes t s (length area) → outcome t s area .tries ≤ suc (readRequest s .request .limit)
@@ -107,11 +108,11 @@ pub record Tries : Type 0 where
 -- the area is untouched; and every outcome with a number but 0 and 9 is such a refusal. The lowest stage wins, fields from left to right, and within a field
 -- 3, then 4, then 5. (Shuts out: places told modulo 10; numbers 1 to 5 all told as 6; an overfull listing refused before its fields are read.)
 pub record Stages : Type 0 where
-  pub refused : (t : Timetable) (s area : List ℕ) (read : ReadRequest) → RequestRead s read → (x : Refusal) → Refuses t read (length area) (some x)
+  pub refused : (t : Timetable) (s area : List ℕ) (read : ReadRequest) → RequestRead s read → (x : Refusal) → StagesSay t read (length area) (Refused x)
       → (outcome t s area ≡ refusedWith t (x .number) (x .place) 0) × (areaAfter t s area ≡ area)
   pub refused-only : (t : Timetable) (s area : List ℕ) (read : ReadRequest) → RequestRead s read
       → outcome t s area .number ≢ ACCEPTED → outcome t s area .number ≢ NO-SCHEDULE
-      → Refuses t read (length area) (some (record { number = outcome t s area .number; place = outcome t s area .place }))
+      → StagesSay t read (length area) (Refused (record { number = outcome t s area .number; place = outcome t s area .place }))
   pub fields : (s : List ℕ) → RequestRead s (readRequest s)
   pub fields-only : (s : List ℕ) (x : ReadRequest) → RequestRead s x → readRequest s ≡ x
   -- the entries over which refusals 7 and 8 speak are those of rule 1
@@ -123,7 +124,7 @@ pub record OneForm : Type 0 where
   pub one : (s : List ℕ) → Bytes s → readRequest s .reading ≡ Whole → s ≡ requestRecord (readRequest s .request)
   pub back : (r : Request) → RequestRange r → readRequest (requestRecord r) ≡ record { reading = Whole; request = r }
   pub range : (s : List ℕ) → readRequest s .reading ≡ Whole → RequestRange (readRequest s .request)
-  pub damaged : (s : List ℕ) (r : Refusal) → readRequest s .reading ≡ Refused r → RefusalRange s r
+  pub damaged : (s : List ℕ) (r : Refusal) → readRequest s .reading ≡ unread r → RefusalRange s r
 
 -- 9. The kept shortfall means what the dictionary says: from the base on, at every slot, it is the largest excess of entitlement over supply among the windows
 -- of the listing that end there, the empty one included, counted across changes.

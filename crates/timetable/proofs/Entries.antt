@@ -4,8 +4,9 @@ use lib.Seq.{getD-set-same, getD-set-other}
 use mathlib.Core.List.{List}
 use mathlib.Core.Path.{_≡_, refl, _∙_}
 use native.Mathlib.Decide.{ℕ-discrete}
+use native.Mathlib.Numerals.{add-one}
 use native.Mathlib.Omega.{arith}
-use Prim.Native.Nat.{ℕ, zero, suc, _≤_, _<_}
+use Prim.Native.Nat.{ℕ, zero, suc, _+_, _≤_, _<_}
 use Rattle.timetable.specs.declared.Entry.{Entry}
 use Rattle.timetable.specs.Timetable.{noEntry, entryOf, each}
 
@@ -24,3 +25,9 @@ module _ (f : ℕ → Entry → Entry) where
           → entryOf (set (each f n es) n (f n (entryOf es n))) i ≡ f i (entryOf es i)
       at (yes e) ih = rw e (getD-set-same (each f n es) n (f n (entryOf es n)) noEntry (omega (arith, length-each n es)))
       at (no e) ih = getD-set-other (each f n es) n i (f n (entryOf es n)) noEntry e ∙ ih (omega arith)
+
+  -- One entry more.
+  pub each-next : (start : List Entry) (n : ℕ) (es : List Entry) (e : Entry) → es ≡ each f n start → e ≡ f n (entryOf start n)
+      → set es n e ≡ each f (n + 1) start
+  unfolding each
+  each-next start n es e p q = rw (add-one n, p, q)

@@ -139,7 +139,7 @@ module _ (t : Timetable) (h : History) where
       (ih : lists (present h) i ≡ true → (x : ℕ) → present h .base .0 ≤ x → shortfall (runOf h) i x ≡ shortfallAt (present h) i (coreSlot x)) where
     -- The shortfall with which id i enters the change is the run's.
     enters-run : shortfall (runOf (t ∷ h)) i (t .request .0) ≡ startShortfall (present h) (t .request) i
-    unfolding startShortfall
+    unfolding startShortfall shortfallAt
     enters-run = at (lists (present h) i) refl
       where
         at : (b : Bool) → lists (present h) i ≡ b → shortfall (runOf (t ∷ h)) i (t .request .0) ≡ startShortfall (present h) (t .request) i

@@ -99,9 +99,13 @@ shortfallAt t i x = shortfallAfter (entryOf (t .entries) i) (x .0 - t .base .0)
 unfoldable pub slicesAt : Timetable → ℕ → CoreSlot → SliceCount
 slicesAt t i x = sliceCount (slicesAfter (entryOf (t .entries) i) (x .0 - t .base .0))
 
--- The shortfall with which id i enters a change at slot x: a newly listed partition starts at 0.
+-- The shortfall with which an entry enters a change n slots after the base: a newly listed partition starts at 0.
+abbrev pub entersWith : Entry → ℕ → ℕ
+entersWith e n = cond (isListed e) (shortfallAfter e n) 0
+
+-- The shortfall with which id i enters a change at slot x.
 unfoldable pub startShortfall : Timetable → CoreSlot → ℕ → ℕ
-startShortfall t x i = cond (lists t i) (shortfallAt t i x) 0
+startShortfall t x i = entersWith (entryOf (t .entries) i) (x .0 - t .base .0)
 
 -- The shortfall of id i, at a weight, after n transition slots of these owners, from its shortfall at the request slot.
 unfoldable pub transitionShortfall : List ℕ → ℕ → ℕ → ℕ → ℕ → ℕ

@@ -1,6 +1,6 @@
 // The timetable of one core: its limits, its fields and the empty one. Nothing here is refused.
 ghost use mathlib.Core.Path.{_≡_};
-ghost use Rattle.timetable.specs.Timetable.{emptyTimetable};
+ghost use Rattle.timetable.specs.Timetable.{emptyTimetable, noEntry};
 use slots::CoreSlot;
 
 mod figures; // figures.rt: the figures of one entry
@@ -15,6 +15,20 @@ pub struct Entry {
     pub offset: u8,
     pub bound: u8,
     pub shortfall: u16,
+}
+
+impl Entry {
+    // The entry of an id that is not listed: all zero.
+    pub fn none() -> Entry
+        ensures { λ r. ⌜ r ≡ noEntry ⌝ }
+    {
+        Entry {
+            period: 0,
+            offset: 0,
+            bound: 0,
+            shortfall: 0,
+        }
+    }
 }
 
 // The request slot, the transition's length and owners, the base, and an entry for each id.
@@ -55,12 +69,7 @@ impl Timetable {
     pub fn empty() -> Timetable
         ensures { λ r. ⌜ r ≡ emptyTimetable ⌝ }
     {
-        let none = Entry {
-            period: 0,
-            offset: 0,
-            bound: 0,
-            shortfall: 0,
-        };
+        let none = Entry::none();
         Timetable {
             request: CoreSlot(0),
             length: 0,

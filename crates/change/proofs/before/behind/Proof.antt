@@ -1,10 +1,11 @@
 -- `behind` meets its contract: the loop's invariant is that no id below `id` is behind. Assumes nothing.
 use borrow.Author.Needs.{needs}
 use mathlib.Core.Option.{none}
-use mathlib.Core.Path.{_≡_, refl, sym, _∙_}
+use mathlib.Core.Path.{_≡_, refl, sym, ap, _∙_}
 use native.Mathlib.Omega.{arith}
 use Prim.Native.Nat.{_-_, _≤_}
 use Rattle.change.proofs.StageSteps.{behindTest, behind-here, behind-end}
+use Rattle.numbers.specs.declared.Verdict.the-variants.{Refused}
 use Rattle.slots.specs.Below.{first}
 use Rattle.slots.specs.Limits.{IDS}
 use Rattle.timetable.proofs.ScanLaws.{first-more}
@@ -30,11 +31,15 @@ array-copy-out-e c = search needs
 is-behind-requires : tie.Need-is-behind-requires Inv-loop μ-loop
 is-behind-requires c κs = tt
 
+of-requires : tie.Need-of-requires Inv-loop μ-loop
+of-requires c κs = search needs
+
 returns : tie.Need-returns Inv-loop μ-loop
 returns c =
-    let i = c .before .before .before in
+    let i = c .before .before .before .before in
     let l = i .before .loop in
-    behind-here (i .before .before .args .t1) (l .id) (i .loop-test .taken) (l .inv .1) (sym (c .before .is-behind .ensures) ∙ c .if1 .taken)
+    ap Refused (c .of .ensures)
+    ∙ behind-here (i .before .before .args .t1) (l .id) (l .inv .1) (i .loop-test .taken) (sym (c .before .before .is-behind .ensures) ∙ c .before .if1 .taken)
 
 add-id : tie.Need-add-id Inv-loop μ-loop
 add-id c = omega arith
@@ -50,7 +55,7 @@ loop-again c =
 returns-2 : tie.Need-returns-2 Inv-loop μ-loop
 returns-2 c =
     let l = c .before .loop in
-    behind-end (c .before .before .args .t1) (l .id) (c .loop-test .left) (l .inv .0) (l .inv .1)
+    behind-end (c .before .before .args .t1) (l .id) (l .inv .1) (c .loop-test .left) (l .inv .0)
 
 pub behind-spec : {M : Type 1} → statement M
 behind-spec =
@@ -62,6 +67,7 @@ behind-spec =
     mul-e
     array-copy-out-e
     is-behind-requires
+    of-requires
     returns
     add-id
     loop-less

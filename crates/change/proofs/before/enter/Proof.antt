@@ -2,23 +2,29 @@
 use borrow.Author.Needs.{needs}
 use mathlib.Core.Logic.{inl, inr}
 use mathlib.Core.Path.{_≡_, sym, _∙_}
-use Rattle.change.proofs.StageSteps.{enter-none, enter-asked, shortfallThen, listed-shortfall, new-shortfall}
+use Rattle.change.proofs.StageSteps.{enter-none, enter-asked, listed-shortfall, new-shortfall}
+use Rattle.timetable.specs.Timetable.{entersWith}
 use Rattle.change.proofs.before.enter.Statement.{statement}
 use Rattle.change.proofs.before.enter.Tie as tie
 
 -- The shortfall where the two ways meet.
 met : (c : tie.Joined2)
-    → c .if2 .shortfall ≡ shortfallThen (c .before .before .before .before .args .old) (c .before .before .before .before .args .elapsed)
+    → c .if2 .shortfall ≡ entersWith (c .before .before .before .before .args .old) (c .before .before .before .before .args .elapsed)
 met c =
     let a = c .before .before .before .before .args in
     let is = sym (c .before .is-listed .ensures) in
-    elim (c .if2 .came) as (λ _. c .if2 .shortfall ≡ shortfallThen (a .old) (a .elapsed)) [
+    elim (c .if2 .came) as (λ _. c .if2 .shortfall ≡ entersWith (a .old) (a .elapsed)) [
       | inl w ↦ listed-shortfall (a .old) (a .elapsed) (c .if2 .shortfall) (is ∙ w .0 .taken) (w .2 ∙ w .1 .ensures)
       | inr w ↦ new-shortfall (a .old) (a .elapsed) (c .if2 .shortfall) (is ∙ w .0 .left) (w .1)
     ]
 
+none-requires : tie.Need-none-requires
+none-requires c κs = search needs
+
 returns : tie.Need-returns
-returns c = let a = c .before .before .args in enter-none (a .old) (a .elapsed) (a .ask) (c .if1 .taken)
+returns c =
+    let a = c .before .before .before .args in
+    c .none .ensures ∙ enter-none (a .old) (a .elapsed) (a .ask) (c .before .if1 .taken)
 
 is-listed-requires : tie.Need-is-listed-requires
 is-listed-requires c κs = search needs
@@ -36,4 +42,4 @@ returns-2 c =
     enter-asked (a .old) (a .elapsed) (a .ask) (c .asked-bound .result) (c .before .if2 .shortfall) (e .if1 .left) (c .asked-bound .ensures) (met (c .before))
 
 pub enter-spec : {M : Type 1} → statement M
-enter-spec = tie.close (tie.spec returns is-listed-requires shortfall-after-requires asked-bound-requires returns-2)
+enter-spec = tie.close (tie.spec none-requires returns is-listed-requires shortfall-after-requires asked-bound-requires returns-2)

@@ -1,11 +1,12 @@
 -- `overfull` meets its contract: the loop's invariant is that `sum` is the running sum below `id`, and no sum so far passes 256. Assumes nothing.
 use borrow.Author.Needs.{needs}
 use mathlib.Core.Option.{none}
-use mathlib.Core.Path.{_≡_, refl}
+use mathlib.Core.Path.{_≡_, refl, ap, _∙_}
 use native.Mathlib.Omega.{arith}
 use Prim.Native.Nat.{_-_, _≤_}
 use Rattle.change.proofs.StageSteps.{overTest, over-here, over-next, over-end, weight-told}
 use Rattle.change.specs.Stages.{weightSum}
+use Rattle.numbers.specs.declared.Verdict.the-variants.{Refused}
 use Rattle.slots.specs.Below.{first}
 use Rattle.slots.specs.Limits.{IDS, WHOLE}
 use Rattle.change.proofs.before.overfull.Statement.{statement}
@@ -39,11 +40,15 @@ add-sum c = omega (arith, c .before .before .before .loop .inv .1, weight-told _
 cast-if1 : tie.Need-cast-if1 Inv-loop μ-loop
 cast-if1 c = search needs
 
+of-requires : tie.Need-of-requires Inv-loop μ-loop
+of-requires c κs = search needs
+
 returns : tie.Need-returns Inv-loop μ-loop
 returns c =
-    let i = c .before .before .before in
+    let i = c .before .before .before .before in
     let l = i .before .loop in
-    over-here (i .before .before .args .t1) (l .id) (l .sum) _ (l .inv .2) (c .before .weight .ensures) (l .inv .3) (i .loop-test .taken) (c .if1 .taken)
+    ap Refused (c .of .ensures)
+    ∙ over-here (i .before .before .args .t1) (l .id) (l .inv .3) (l .sum) _ (l .inv .2) (c .before .before .weight .ensures) (i .loop-test .taken) (c .before .if1 .taken)
 
 add-id : tie.Need-add-id Inv-loop μ-loop
 add-id c = omega arith
@@ -55,13 +60,13 @@ loop-again : tie.Need-loop-again Inv-loop μ-loop
 loop-again c =
     let i = c .before .before .before in
     let l = i .before .loop in
-    let k = over-next (i .before .before .args .t1) (l .id) (l .sum) _ (l .inv .2) (c .before .weight .ensures) (l .inv .3) (c .if1 .left) in
+    let k = over-next (i .before .before .args .t1) (l .id) (l .inv .3) (l .sum) _ (l .inv .2) (c .before .weight .ensures) (c .if1 .left) in
     (omega (arith, i .loop-test .taken), c .if1 .left, k .0, k .1)
 
 returns-2 : tie.Need-returns-2 Inv-loop μ-loop
 returns-2 c =
     let l = c .before .loop in
-    over-end (c .before .before .args .t1) (l .id) (c .loop-test .left) (l .inv .0) (l .inv .3)
+    over-end (c .before .before .args .t1) (l .id) (l .inv .3) (c .loop-test .left) (l .inv .0)
 
 pub overfull-spec : {M : Type 1} → statement M
 overfull-spec =
@@ -76,6 +81,7 @@ overfull-spec =
     cast-sum
     add-sum
     cast-if1
+    of-requires
     returns
     add-id
     loop-less

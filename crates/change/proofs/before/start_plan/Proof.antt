@@ -5,9 +5,10 @@ use mathlib.Core.List.{List}
 use mathlib.Core.Path.{_≡_, refl, ap}
 use native.Mathlib.Omega.{arith}
 use Prim.Native.Nat.{_-_, _≤_}
-use Rattle.change.proofs.StageSteps.{listed-in-range, entered, entered-next, entered-all}
+use Rattle.change.proofs.StageSteps.{listed-in-range, entered, entered-all}
 use Rattle.change.specs.Change.{startPlan}
 use Rattle.slots.specs.Limits.{IDS, LONGEST}
+use Rattle.timetable.proofs.Entries.{each-next}
 use Rattle.timetable.specs.declared.Entry.{Entry}
 use Rattle.timetable.specs.Timetable.{each}
 use Rattle.transition.specs.declared.Plan.{Plan}
@@ -23,9 +24,12 @@ abbrev μ-loop : tie.MeasureT-loop
 sub-elapsed : tie.Need-sub-elapsed Inv-loop μ-loop
 sub-elapsed c = c .pre .1
 
+none-requires : tie.Need-none-requires Inv-loop μ-loop
+none-requires c κs = search needs
+
 loop-holds : tie.Need-loop-holds Inv-loop μ-loop
 unfolding each
-loop-holds c = (omega arith, refl)
+loop-holds c = (omega arith, ap (replicate IDS) (c .none .ensures))
 
 mul-old : tie.Need-mul-old Inv-loop μ-loop
 mul-old c = search needs
@@ -42,7 +46,7 @@ element-copy-out-ask c = search needs
 enter-requires : tie.Need-enter-requires Inv-loop μ-loop
 enter-requires c κs =
     let i = c .before .before in
-    let s = i .before .before in
+    let s = i .before .before .before in
     listed-in-range (s .args .t1) (s .pre .0) (i .before .loop .id) (i .loop-test .taken)
 
 mul-entries : tie.Need-mul-entries Inv-loop μ-loop
@@ -61,14 +65,14 @@ loop-again : tie.Need-loop-again Inv-loop μ-loop
 loop-again c =
     let i = c .before .before .before in
     let l = i .before .loop in
-    let a = i .before .before .args in
-    (omega (arith, i .loop-test .taken), entered-next (a .t1) (a .t2 .asks) _ (l .id) (l .entries) (c .enter .result) (l .inv .1) (c .enter .ensures))
+    let a = i .before .before .before .args in
+    (omega (arith, i .loop-test .taken), each-next _ _ (l .id) (l .entries) (c .enter .result) (l .inv .1) (c .enter .ensures))
 
 returns : tie.Need-returns Inv-loop μ-loop
 unfolding startPlan
 returns c =
     let l = c .before .loop in
-    let a = c .before .before .args in
+    let a = c .before .before .before .args in
     ap {B = Plan} (λ (es : List Entry). record { owners = replicate LONGEST 0; entries = es })
     (entered-all (a .t1) (a .t2 .slot) (a .t2 .asks) (l .entries) (l .id) (c .loop-test .left) (l .inv .0) (l .inv .1))
 
@@ -79,6 +83,7 @@ start-plan-spec =
     Inv-loop
     μ-loop
     sub-elapsed
+    none-requires
     loop-holds
     mul-old
     element-copy-out-old

@@ -1,13 +1,16 @@
--- `refusal_first` asks the stages that need no entries in the definition's order. Assumes nothing.
+-- `verdict_first` asks the stages that need no entries in their order: at each return it is what their statement says. Assumes nothing.
 use borrow.Author.Needs.{needs}
 use mathlib.Core.Bool.{true}
 use mathlib.Core.Path.{_≡_, sym, ap, _∙_}
-use Rattle.change.proofs.StageSteps.{first-unsound, first-small, first-field, first-early, first-passes}
-use Rattle.records.specs.declared.Reading.the-variants.{Refused}
+use Rattle.change.proofs.Stages.{first-tells}
+use Rattle.change.specs.Refused.{not-sound, small-area, enough, bad-field, whole, too-early, in-time}
+use Rattle.change.specs.Refused as stage
+use Rattle.numbers.specs.Chain as chain
+use Rattle.numbers.specs.declared.Verdict.the-variants.{Refused}
 use Rattle.timetable.proofs.ScanLaws.{refused, passed}
 use Rattle.timetable.specs.Sound.{isSound}
-use Rattle.change.proofs.before.refusal_first.Statement.{statement}
-use Rattle.change.proofs.before.refusal_first.Tie as tie
+use Rattle.change.proofs.before.verdict_first.Statement.{statement}
+use Rattle.change.proofs.before.verdict_first.Tie as tie
 
 -- What the first answer leaves.
 sound : (c : tie.Else1) → isSound (c .before .before .args .t) ≡ true
@@ -23,7 +26,8 @@ returns : tie.Need-returns
 returns c =
     let i = c .before in
     let a = i .before .before .args in
-    ap Refused (c .of .ensures) ∙ sym (first-unsound (a .t) (a .read) (a .area) (refused _ _ (i .before .is-sound .ensures) (i .if1 .taken)))
+    ap Refused (c .of .ensures)
+    ∙ sym (first-tells (a .t) (a .read) (a .area) .only _ (chain.refused _ (not-sound (refused _ _ (i .before .is-sound .ensures) (i .if1 .taken)))))
 
 of-requires-2 : tie.Need-of-requires-2
 of-requires-2 c κs = search needs
@@ -32,7 +36,8 @@ returns-2 : tie.Need-returns-2
 returns-2 c =
     let e = c .before .before in
     let a = e .before .before .args in
-    ap Refused (c .of2 .ensures) ∙ sym (first-small (a .t) (a .read) (a .area) (sound e) (c .before .if2 .taken))
+    ap Refused (c .of2 .ensures)
+    ∙ sym (first-tells (a .t) (a .read) (a .area) .only _ (chain.passed _ (stage.sound (sound e)) (chain.refused _ (small-area (c .before .if2 .taken)))))
 
 enum-known-reading : tie.Need-enum-known-reading
 enum-known-reading c = search needs
@@ -42,7 +47,9 @@ returns-3 c =
     let m = c .before .before .before in
     let e = m .before in
     let a = e .before .before .args in
-    sym (first-field (a .t) (a .read) (a .area) (sound e) (m .if2 .left) _ (c .before .reading .given .1))
+    sym
+    (first-tells (a .t) (a .read) (a .area) .only _
+    (chain.passed _ (stage.sound (sound e)) (chain.passed _ (enough (m .if2 .left)) (chain.refused _ (bad-field _ (c .before .reading .given .1))))))
 
 enum-told : tie.Need-enum-told
 enum-told c = search needs
@@ -57,7 +64,10 @@ returns-4 c =
     let e = m .before in
     let a = e .before .before .args in
     ap Refused (c .of3 .ensures)
-    ∙ sym (first-early (a .t) (a .read) (a .area) (sound e) (m .if2 .left) (w .enum-told .given .1) (c .before .if3 .taken))
+    ∙ sym
+    (first-tells (a .t) (a .read) (a .area) .only _
+    (chain.passed _ (stage.sound (sound e))
+    (chain.passed _ (enough (m .if2 .left)) (chain.passed _ (whole (w .enum-told .given .1)) (too-early (c .before .if3 .taken))))))
 
 returns-5 : tie.Need-returns-5
 returns-5 c =
@@ -65,10 +75,12 @@ returns-5 c =
     let m = w .before .before in
     let e = m .before in
     let a = e .before .before .args in
-    sym (first-passes (a .t) (a .read) (a .area) (sound e) (m .if2 .left) (w .enum-told .given .1) (c .if3 .left))
+    sym
+    (first-tells (a .t) (a .read) (a .area) .only _
+    (chain.passed _ (stage.sound (sound e)) (chain.passed _ (enough (m .if2 .left)) (chain.passed _ (whole (w .enum-told .given .1)) (in-time (c .if3 .left))))))
 
-pub refusal-first-spec : {M : Type 1} → statement M
-refusal-first-spec =
+pub verdict-first-spec : {M : Type 1} → statement M
+verdict-first-spec =
     tie.close
     (tie.spec
     is-sound-requires

@@ -1,0 +1,35 @@
+-- `verdict_listed` asks stages 7 and 8 in their order. Assumes nothing.
+use borrow.Author.Needs.{needs}
+use mathlib.Core.Path.{sym, _∙_}
+use Rattle.change.specs.Stages.{stageBehind, stagesListed}
+use Rattle.numbers.proofs.ChainLaws.{first-one, first-passed, first-refused}
+use Rattle.change.proofs.before.verdict_listed.Statement.{statement}
+use Rattle.change.proofs.before.verdict_listed.Tie as tie
+
+overfull-requires : tie.Need-overfull-requires
+overfull-requires c κs = search needs
+
+enum-known-r : tie.Need-enum-known-r
+enum-known-r c = search needs
+
+returns : tie.Need-returns
+unfolding stagesListed
+returns c =
+    let o = c .before .before .before in
+    sym (first-refused _ _ _ (sym (o .overfull .ensures) ∙ c .before .r .given .1))
+
+enum-told : tie.Need-enum-told
+enum-told c = search needs
+
+behind-requires : tie.Need-behind-requires
+behind-requires c κs = search needs
+
+returns-2 : tie.Need-returns-2
+unfolding stagesListed
+returns-2 c =
+    let o = c .before .before .before in
+    c .behind .ensures
+    ∙ sym (first-passed _ _ (sym (o .overfull .ensures) ∙ c .before .enum-told .given .1) ∙ first-one (stageBehind (o .before .args .entries)))
+
+pub verdict-listed-spec : {M : Type 1} → statement M
+verdict-listed-spec = tie.close (tie.spec overfull-requires enum-known-r returns enum-told behind-requires returns-2)
