@@ -4,10 +4,9 @@ use lib.Seq.{getD-drop, length-take-le, sets}
 use mathlib.Core.List.{List}
 use mathlib.Core.Path.{_≡_, sym, ap, _∙_}
 use native.Mathlib.Nat.{zero-add}
-use native.Mathlib.Numerals.{add-one}
 use native.Mathlib.Omega.{arith}
-use Prim.Native.Nat.{ℕ, _+_, _*_, _<_}
-use Rattle.board.specs.Image.{IMAGE, entriesAt, entryAt, timetableAt}
+use Prim.Native.Nat.{ℕ, _+_, _<_}
+use Rattle.board.specs.Image.{BASE-AT, IMAGE, LENGTH-AT, OWNERS-AT, entriesAt, timetableAt}
 use Rattle.records.proofs.SetsLaws.{sets-all, sets-next}
 use Rattle.records.specs.Request.{numberAt}
 use Rattle.slots.specs.Clocks.{coreSlot}
@@ -22,28 +21,22 @@ short-below s at bytes = omega (arith, bytes (at + 0), bytes (at + 1))
 
 -- One owner more.
 pub owners-next : (image owners : List ℕ) (n : ℕ) → length image ≡ IMAGE → n < LONGEST
-    → owners ≡ sets (replicate LONGEST 0) 0 (take n (drop 9 image))
-    → set owners n (getD image (9 + n) 0) ≡ sets (replicate LONGEST 0) 0 (take (n + 1) (drop 9 image))
+    → owners ≡ sets (replicate LONGEST 0) 0 (take n (drop OWNERS-AT image))
+    → set owners n (getD image (OWNERS-AT + n) 0) ≡ sets (replicate LONGEST 0) 0 (take (n + 1) (drop OWNERS-AT image))
 owners-next image owners n len h e =
-    ap (λ (x : List ℕ). set x n (getD image (9 + n) 0)) e
-    ∙ ap (λ (x : ℕ). set (sets (replicate LONGEST 0) 0 (take n (drop 9 image))) n x) (sym (getD-drop 9 image n 0))
-    ∙ rw zero-add at (sets-next (replicate LONGEST 0) (drop 9 image) 0 n (omega (arith, length-drop 9 image)))
+    ap (λ (x : List ℕ). set x n (getD image (OWNERS-AT + n) 0)) e
+    ∙ ap (λ (x : ℕ). set (sets (replicate LONGEST 0) 0 (take n (drop OWNERS-AT image))) n x) (sym (getD-drop OWNERS-AT image n 0))
+    ∙ rw zero-add at (sets-next (replicate LONGEST 0) (drop OWNERS-AT image) 0 n (omega (arith, length-drop OWNERS-AT image)))
 
 -- All owners.
 pub owners-all : (image owners : List ℕ) (n : ℕ) → length image ≡ IMAGE → n ≡ LONGEST
-    → owners ≡ sets (replicate LONGEST 0) 0 (take n (drop 9 image)) → owners ≡ take LONGEST (drop 9 image)
+    → owners ≡ sets (replicate LONGEST 0) 0 (take n (drop OWNERS-AT image)) → owners ≡ take LONGEST (drop OWNERS-AT image)
 owners-all image owners n len h e =
-    (rw h at e) ∙ sets-all (replicate LONGEST 0) (take LONGEST (drop 9 image)) (length-take-le LONGEST (drop 9 image) (omega (arith, length-drop 9 image)))
-
--- One entry more.
-pub entries-held : (image : List ℕ) (es : List Entry) (n : ℕ) (e : Entry) → es ≡ entriesAt image n → e ≡ entryAt image (81 + 6 * n)
-    → set es n e ≡ entriesAt image (n + 1)
-unfolding entriesAt
-entries-held image es n e p q = rw (add-one n, p, q)
+    (rw h at e) ∙ sets-all (replicate LONGEST 0) (take LONGEST (drop OWNERS-AT image)) (length-take-le LONGEST (drop OWNERS-AT image) (omega (arith, length-drop OWNERS-AT image)))
 
 -- The fields are the timetable.
-pub held : (image owners : List ℕ) (es : List Entry) (a b : ℕ) → a ≡ numberAt image 0 8 → owners ≡ take LONGEST (drop 9 image) → b ≡ numberAt image 73 8
+pub held : (image owners : List ℕ) (es : List Entry) (a b : ℕ) → a ≡ numberAt image 0 8 → owners ≡ take LONGEST (drop OWNERS-AT image) → b ≡ numberAt image BASE-AT 8
     → es ≡ entriesAt image IDS
-    → _≡_ {A = Timetable} (record { request = coreSlot a; length = getD image 8 0; owners = owners; base = coreSlot b; entries = es }) (timetableAt image)
+    → _≡_ {A = Timetable} (record { request = coreSlot a; length = getD image LENGTH-AT 0; owners = owners; base = coreSlot b; entries = es }) (timetableAt image)
 unfolding timetableAt
 held image owners es a b p q r s = rw (p, q, r, s)

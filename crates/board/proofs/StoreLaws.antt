@@ -6,7 +6,7 @@ use mathlib.Core.Path.{_≡_, refl, sym, ap, _∙_}
 use native.Mathlib.Numerals.{add-one, unary-clauses}
 use native.Mathlib.Omega.{arith}
 use Prim.Native.Nat.{ℕ, zero, suc, _+_, _-_, _*_, _/_, _%_, _<_}
-use Rattle.board.specs.Image.{IMAGE, entriesBytes, entryBytes, imageOf}
+use Rattle.board.specs.Image.{BASE-AT, ENTRIES-AT, ENTRY, IMAGE, LENGTH-AT, OWNERS-AT, entriesBytes, entryBytes, imageOf}
 use Rattle.records.proofs.FieldStands.{number-length}
 use Rattle.records.proofs.SetsLaws.{set-then, sets-all, sets-behind, sets-then}
 use Rattle.records.specs.Written.{numberBytes}
@@ -39,25 +39,25 @@ entry-stored l a d at e pa pd =
     pd ∙ rw y (sets-then l at (at + 4) (p ++ e .offset ∷ e .bound ∷ []) (numberBytes (e .shortfall) 2) refl)
 
 -- An entry has six bytes.
-entry-length : (e : Entry) → length (entryBytes e) ≡ 6
+entry-length : (e : Entry) → length (entryBytes e) ≡ ENTRY
 unfolding entryBytes numberBytes
 entry-length e = refl
 
 -- So the entries below n have six bytes each.
-pub entries-length : (es : List Entry) (n : ℕ) → length (entriesBytes es n) ≡ 6 * n
+pub entries-length : (es : List Entry) (n : ℕ) → length (entriesBytes es n) ≡ ENTRY * n
 unfolding entriesBytes
 entries-length es zero = refl
 entries-length es (suc n) = simp length-append (omega (arith, entries-length es n, entry-length (entryOf es n)))
 
 -- One entry more.
-pub entries-next : (l m k : List ℕ) (es : List Entry) (n : ℕ) → m ≡ sets l 81 (entriesBytes es n)
-    → k ≡ sets m (81 + 6 * n) (entryBytes (entryOf es n)) → k ≡ sets l 81 (entriesBytes es (n + 1))
+pub entries-next : (l m k : List ℕ) (es : List Entry) (n : ℕ) → m ≡ sets l ENTRIES-AT (entriesBytes es n)
+    → k ≡ sets m (ENTRIES-AT + ENTRY * n) (entryBytes (entryOf es n)) → k ≡ sets l ENTRIES-AT (entriesBytes es (n + 1))
 unfolding entriesBytes
 entries-next l m k es n pm pk =
     pk
-    ∙ ap (λ (x : List ℕ). sets x (81 + 6 * n) (entryBytes (entryOf es n))) pm
-    ∙ sets-then l 81 (81 + 6 * n) (entriesBytes es n) (entryBytes (entryOf es n)) (omega (arith, entries-length es n))
-    ∙ ap (λ (x : ℕ). sets l 81 (entriesBytes es x)) (sym (add-one n))
+    ∙ ap (λ (x : List ℕ). sets x (ENTRIES-AT + ENTRY * n) (entryBytes (entryOf es n))) pm
+    ∙ sets-then l ENTRIES-AT (ENTRIES-AT + ENTRY * n) (entriesBytes es n) (entryBytes (entryOf es n)) (omega (arith, entries-length es n))
+    ∙ ap (λ (x : ℕ). sets l ENTRIES-AT (entriesBytes es x)) (sym (add-one n))
 
 module _ (t : Timetable) (all : length (t .owners) ≡ LONGEST) where
   -- An image has 273 bytes.
@@ -68,8 +68,8 @@ module _ (t : Timetable) (all : length (t .owners) ≡ LONGEST) where
 
   -- The fields stored one behind the other are the image.
   pub image-stored : (l a b d e : List ℕ) → length l ≡ IMAGE → a ≡ sets l 0 (numberBytes (t .request .0) 8)
-      → b ≡ sets (set a 8 (t .length)) 9 (take LONGEST (t .owners)) → d ≡ sets b 73 (numberBytes (t .base .0) 8)
-      → e ≡ sets d 81 (entriesBytes (t .entries) IDS) → e ≡ imageOf t
+      → b ≡ sets (set a LENGTH-AT (t .length)) OWNERS-AT (take LONGEST (t .owners)) → d ≡ sets b BASE-AT (numberBytes (t .base .0) 8)
+      → e ≡ sets d ENTRIES-AT (entriesBytes (t .entries) IDS) → e ≡ imageOf t
   unfolding imageOf
   image-stored l a b d e len pa pb pd pe =
       let r = numberBytes (t .request .0) 8 in
@@ -79,12 +79,12 @@ module _ (t : Timetable) (all : length (t .owners) ≡ LONGEST) where
       let nr = number-length (t .request .0) 8 in
       let ns = number-length (t .base .0) 8 in
       let w : take LONGEST o ≡ o = take-all LONGEST o (omega arith) in
-      let x : set a 8 (t .length) ≡ sets l 0 (r ++ t .length ∷ []) = rw pa (set-then l 0 8 r (t .length) (omega arith)) in
+      let x : set a LENGTH-AT (t .length) ≡ sets l 0 (r ++ t .length ∷ []) = rw pa (set-then l 0 LENGTH-AT r (t .length) (omega arith)) in
       let y : b ≡ sets l 0 ((r ++ t .length ∷ []) ++ o) =
-      pb ∙ rw (x, w) (sets-then l 0 9 (r ++ t .length ∷ []) o (omega (arith, length-append r (t .length ∷ [])))) in
+      pb ∙ rw (x, w) (sets-then l 0 OWNERS-AT (r ++ t .length ∷ []) o (omega (arith, length-append r (t .length ∷ [])))) in
       let z : d ≡ sets l 0 (((r ++ t .length ∷ []) ++ o) ++ s) =
-      pd ∙ rw y (sets-then l 0 73 ((r ++ t .length ∷ []) ++ o) s (simp length-append (omega arith))) in
+      pd ∙ rw y (sets-then l 0 BASE-AT ((r ++ t .length ∷ []) ++ o) s (simp length-append (omega arith))) in
       let v : e ≡ sets l 0 ((((r ++ t .length ∷ []) ++ o) ++ s) ++ es) =
-      pe ∙ rw z (sets-then l 0 81 (((r ++ t .length ∷ []) ++ o) ++ s) es (simp length-append (omega arith))) in
+      pe ∙ rw z (sets-then l 0 ENTRIES-AT (((r ++ t .length ∷ []) ++ o) ++ s) es (simp length-append (omega arith))) in
       let f : (((r ++ t .length ∷ []) ++ o) ++ s) ++ es ≡ imageOf t = simp append-assoc in
       v ∙ ap (sets l 0) f ∙ sets-all l (imageOf t) (image-length ∙ sym len)

@@ -1,6 +1,6 @@
 -- A timetable as a C program keeps it: an image of 273 bytes, the fields in document 01's order, numbers high byte first.
 use lib.Dec.{eqb}
-use lib.ListN.{drop, getD, length, replicate, set, take}
+use lib.ListN.{drop, getD, length, replicate, take}
 use mathlib.Core.Bool.{Bool, cond}
 use mathlib.Core.List.{List, [], _∷_, _++_}
 use mathlib.Core.Path.{_≡_}
@@ -18,11 +18,28 @@ use Rattle.slots.specs.Clocks.{coreSlot}
 use Rattle.slots.specs.Limits.{IDS, LONGEST}
 use Rattle.timetable.specs.declared.Entry.{Entry}
 use Rattle.timetable.specs.declared.Timetable.{Timetable}
-use Rattle.timetable.specs.Timetable.{emptyTimetable, entryOf, noEntry}
+use Rattle.timetable.specs.Timetable.{each, emptyTimetable, entryOf, noEntry}
 
 -- An image has this many bytes.
 abbrev pub IMAGE : ℕ
 IMAGE = 273
+
+-- The places of the transition's length and owners, of the base and of the entries.
+abbrev pub LENGTH-AT : ℕ
+LENGTH-AT = 8
+
+abbrev pub OWNERS-AT : ℕ
+OWNERS-AT = 9
+
+abbrev pub BASE-AT : ℕ
+BASE-AT = 73
+
+abbrev pub ENTRIES-AT : ℕ
+ENTRIES-AT = 81
+
+-- An entry has this many bytes.
+abbrev pub ENTRY : ℕ
+ENTRY = 6
 
 -- Whether bytes are an image, by their number.
 abbrev pub isImage : List ℕ → Bool
@@ -37,18 +54,17 @@ entryAt image at = record {
   shortfall = numberAt image (at + 4) 2;
 }
 
--- The entries of the ids below n, from byte 81 on; the others not listed.
-unfoldable pub entriesAt : List ℕ → ℕ → List Entry
-entriesAt image zero = replicate IDS noEntry
-entriesAt image (suc n) = set (entriesAt image n) n (entryAt image (81 + 6 * n))
+-- The entries of the ids below n, one behind the other; the others not listed.
+abbrev pub entriesAt : List ℕ → ℕ → List Entry
+entriesAt image n = each (λ i e. entryAt image (ENTRIES-AT + ENTRY * i)) n (replicate IDS noEntry)
 
 -- The timetable that an image holds: request slot (8), length, owners (64), base (8), entries.
 unfoldable pub timetableAt : List ℕ → Timetable
 timetableAt image = record {
   request = coreSlot (numberAt image 0 8);
-  length = getD image 8 0;
-  owners = take LONGEST (drop 9 image);
-  base = coreSlot (numberAt image 73 8);
+  length = getD image LENGTH-AT 0;
+  owners = take LONGEST (drop OWNERS-AT image);
+  base = coreSlot (numberAt image BASE-AT 8);
   entries = entriesAt image IDS;
 }
 

@@ -3,7 +3,7 @@ ghost use lib.ListN.{drop, length, take};
 ghost use lib.Seq.{sets};
 ghost use mathlib.Core.Path.{_≡_};
 ghost use Prim.Native.Nat.{_+_, _≤_};
-ghost use Rattle.board.specs.Image.{IMAGE, entriesAt, entriesBytes, entryAt, entryBytes, imageOf, timetableAt};
+ghost use Rattle.board.specs.Image.{ENTRIES-AT, ENTRY, IMAGE, OWNERS-AT, entriesAt, entriesBytes, entryAt, entryBytes, imageOf, timetableAt};
 ghost use Rattle.records.specs.Request.{numberAt};
 ghost use Rattle.records.specs.Written.{numberBytes};
 ghost use Rattle.slots.specs.Limits.{IDS, LONGEST};
@@ -18,6 +18,9 @@ const LENGTH_AT: usize = 8;
 
 // The place of its owners.
 const OWNERS_AT: usize = 9;
+
+// There are this many.
+const OWNERS: u8 = Timetable::LONGEST as u8;
 
 // The place of the base.
 const BASE_AT: usize = 73;
@@ -47,7 +50,7 @@ pub fn timetable_of(image: &[u8]) -> Timetable
 // The owners that an image holds.
 fn owners_of(image: &[u8]) -> [u8; Timetable::LONGEST]
     requires { ⌜ length (now image) ≡ IMAGE ⌝ }
-    ensures { λ r. ⌜ r ≡ take LONGEST (drop 9 (now (image .entry))) ⌝ }
+    ensures { λ r. ⌜ r ≡ take LONGEST (drop OWNERS-AT (now (image .entry))) ⌝ }
 {
     let mut owners = [0; Timetable::LONGEST];
     let mut n: usize = 0;
@@ -63,12 +66,7 @@ fn entries_of(image: &[u8]) -> [Entry; Timetable::IDS]
     requires { ⌜ length (now image) ≡ IMAGE ⌝ }
     ensures { λ r. ⌜ r ≡ entriesAt (now (image .entry)) IDS ⌝ }
 {
-    let none = Entry {
-        period: 0,
-        offset: 0,
-        bound: 0,
-        shortfall: 0,
-    };
+    let none = Entry::none();
     let mut entries = [none; Timetable::IDS];
     let mut id: usize = 0;
     while id < Timetable::IDS {
@@ -80,7 +78,7 @@ fn entries_of(image: &[u8]) -> [Entry; Timetable::IDS]
 
 // The entry that the six bytes from a place hold.
 fn entry_of(image: &[u8], at: usize) -> Entry
-    requires { ⌜ at + 6 ≤ length (now image) ⌝ }
+    requires { ⌜ at + ENTRY ≤ length (now image) ⌝ }
     ensures { λ r. ⌜ r ≡ entryAt (now (image .entry)) at ⌝ }
 {
     Entry {
@@ -108,7 +106,7 @@ pub fn put_image(image: &mut [u8], t: Timetable)
     let entries = t.entries;
     put_number(image, 0, 8, t.request.0);
     image[LENGTH_AT] = t.length;
-    put_owners(image, OWNERS_AT, 64, owners);
+    put_owners(image, OWNERS_AT, OWNERS, owners);
     put_number(image, BASE_AT, 8, t.base.0);
     put_entries(image, entries);
 }
@@ -116,7 +114,7 @@ pub fn put_image(image: &mut [u8], t: Timetable)
 // Writes the entries, one behind the other.
 fn put_entries(image: &mut [u8], entries: [Entry; Timetable::IDS])
     requires { ⌜ length (now image) ≡ IMAGE ⌝ }
-    ensures { λ _. ⌜ now (image .exit) ≡ sets (now (image .entry)) 81 (entriesBytes entries IDS) ⌝ }
+    ensures { λ _. ⌜ now (image .exit) ≡ sets (now (image .entry)) ENTRIES-AT (entriesBytes entries IDS) ⌝ }
 {
     let mut id: usize = 0;
     while id < Timetable::IDS {
@@ -128,7 +126,7 @@ fn put_entries(image: &mut [u8], entries: [Entry; Timetable::IDS])
 
 // Writes the six bytes of an entry.
 fn put_entry(image: &mut [u8], at: usize, e: Entry)
-    requires { ⌜ at + 6 ≤ length (now image) ⌝ }
+    requires { ⌜ at + ENTRY ≤ length (now image) ⌝ }
     ensures { λ _. ⌜ now (image .exit) ≡ sets (now (image .entry)) at (entryBytes e) ⌝ }
 {
     put_number(image, at, 2, e.period as u64);

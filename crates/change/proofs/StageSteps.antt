@@ -1,7 +1,7 @@
 -- The stages before the search, test by test, as the code makes them. Assumes nothing.
 use borrow.Author.Tests.{lt-ltb, le-ltb, le-leb, lt-leb, eq-eqb, ne-eqb}
 use lib.Dec.{leb, ltb}
-use lib.ListN.{set, replicate}
+use lib.ListN.{replicate}
 use mathlib.Core.Bool.{Bool, true, false, not}
 use mathlib.Core.List.{List}
 use mathlib.Core.Logic.{_≢_}
@@ -10,15 +10,14 @@ use mathlib.Core.Path.{_≡_, sym, ap, ap₂, _∙_}
 use native.Mathlib.Decide.{decLe}
 use native.Mathlib.Numerals.{add-one}
 use native.Mathlib.Omega.{arith}
-use Prim.Native.Nat.{ℕ, suc, _+_, _-_, _*_, _≤_, _<_}
-use Rattle.change.specs.Stages.{askedBound, entering, startEntries, weightSum, overfull, isBehind, behind, stageOverfull, stageBehind}
+use Prim.Native.Nat.{ℕ, suc, _+_, _*_, _≤_, _<_}
+use Rattle.change.specs.Stages.{askedBound, entering, weightSum, overfull, isBehind, behind, stageOverfull, stageBehind}
 use Rattle.numbers.specs.Chain.{refusedAt}
 use Rattle.numbers.specs.declared.Verdict.the-variants.{Passed, Refused}
 use Rattle.numbers.specs.Numbers.{OVERFULL, BEHIND, refusal}
 use Rattle.records.specs.declared.Ask.{Ask}
 use Rattle.records.specs.Request.{askOf}
 use Rattle.slots.specs.Below.{first}
-use Rattle.slots.specs.declared.CoreSlot.{CoreSlot}
 use Rattle.slots.specs.Limits.{IDS, WHOLE}
 use Rattle.slots.specs.Shortfall.{keeps, weightOf}
 use Rattle.timetable.proofs.EntryLaws.{weight-le}
@@ -67,11 +66,6 @@ listed-in-range t s i k l = in-range-is (entryOf (t .entries) i) (sound-from t s
 -- The entries below an id have entered.
 abbrev pub entered : Timetable → List Ask → ℕ → ℕ → List Entry
 entered t asks n id = each (λ i e. entering (entryOf (t .entries) i) n (askOf asks i)) id (replicate IDS noEntry)
-
-pub entered-all : (t : Timetable) (slot : CoreSlot) (asks : List Ask) (es : List Entry) (m : ℕ) → IDS ≤ m → m ≤ IDS
-    → es ≡ entered t asks (slot .0 - t .base .0) m → es ≡ startEntries t slot asks
-unfolding startEntries
-entered-all t slot asks es m a b e = let k : m ≡ IDS = omega arith in e ∙ ap (entered t asks (slot .0 - t .base .0)) k
 
 -- ---- a stage that names an id
 

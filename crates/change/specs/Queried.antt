@@ -8,7 +8,7 @@ use Rattle.numbers.specs.Numbers.{ACCEPTED, NOT-SOUND, OUT-OF-RANGE, TOO-EARLY,
 use Rattle.slots.specs.Clocks.{sliceCount}
 use Rattle.slots.specs.declared.CoreSlot.{CoreSlot}
 use Rattle.slots.specs.declared.SliceCount.{SliceCount}
-use Rattle.slots.specs.Limits.{IDS, LAST-SLOT}
+use Rattle.slots.specs.Limits.{IDLE, IDS, LAST-SLOT}
 use Rattle.timetable.specs.declared.Timetable.{Timetable}
 use Rattle.timetable.specs.Sound.{isSound}
 use Rattle.timetable.specs.Timetable.{lists, serves, shortfallAt, slicesAt}
@@ -23,7 +23,7 @@ pub data OwnerGiven (t : Timetable) (x : CoreSlot) : OwnerAnswer → Type 0 wher
   high : isSound t ≡ true → LAST-SLOT < x .0 → OwnerGiven t x (ownerAnswer OUT-OF-RANGE 0)
   early : isSound t ≡ true → x .0 ≤ LAST-SLOT → x .0 < t .request .0 → OwnerGiven t x (ownerAnswer TOO-EARLY 0)
   owned : isSound t ≡ true → x .0 ≤ LAST-SLOT → t .request .0 ≤ x .0 → (i : ℕ) → i < IDS → serves t x i ≡ true → OwnerGiven t x (ownerAnswer ACCEPTED i)
-  idle : isSound t ≡ true → x .0 ≤ LAST-SLOT → t .request .0 ≤ x .0 → ((i : ℕ) → i < IDS → serves t x i ≡ false) → OwnerGiven t x (ownerAnswer ACCEPTED 255)
+  idle : isSound t ≡ true → x .0 ≤ LAST-SLOT → t .request .0 ≤ x .0 → ((i : ℕ) → i < IDS → serves t x i ≡ false) → OwnerGiven t x (ownerAnswer ACCEPTED IDLE)
 
 -- A standing query's answer.
 abbrev pub standingAnswer : ℕ → ℕ → SliceCount → StandingAnswer

@@ -6,7 +6,7 @@ use lib.ListN.{drop, getD, length, set, take}
 use lib.Seq.{drop-cons, getD-take, length-take-le}
 use mathlib.Core.Bool.{Bool, true, false, cond, not, _||_}
 use mathlib.Core.List.{List, [], _∷_, map}
-use mathlib.Core.Logic.{_⊎_, inl, inr}
+use mathlib.Core.Logic.{inl, inr}
 use mathlib.Core.Option.{Option, none, some}
 use mathlib.Core.Path.{_≡_, refl, sym, ap, ap₂, _∙_, subst}
 use native.Mathlib.Nat.{add-mul-mod-self-right, le-div-iff-mul-le, mod-mod-of-dvd}
@@ -20,12 +20,13 @@ use Rattle.placement.proofs.Order.{InOrder, in-order-fair, ordered-in-o
 use Rattle.placement.proofs.Table.{clear-below}
 use Rattle.placement.specs.declared.taken.Free.{Free}
 use Rattle.placement.specs.declared.taken.Free.the-variants.{At, Nowhere}
-use Rattle.placement.specs.Placed.{placedOf, demandAt, demandsOf, Ranked, Says, lastClear, Finds, Marks}
+use Rattle.placement.specs.Placed.{placedOf, demandAt, demandsOf, Ranked, Says, lastClear, Finds, TakenToo}
 use Rattle.placement.specs.Placement.{Demand, Place, demandOf, isTaken, allFree, lastFree, placeFrom, placement, settle}
-use Rattle.slots.proofs.Below.{every-at, every-all, decided, true-false}
+use Rattle.slots.proofs.Below.{every-all, every-not}
 use Rattle.slots.specs.Limits.{IDS, WHOLE}
 use Rattle.timetable.proofs.Ranges.{Period, period-dvd, period-le, period-pos}
 use Rattle.timetable.specs.declared.Entry.{Entry}
+use Rattle.timetable.specs.Marks.{Marks}
 use Rattle.timetable.specs.Sound.{entriesInRange}
 use Rattle.timetable.specs.Timetable.{entryOf, isListed, withOffset}
 
@@ -58,7 +59,7 @@ module _ (ps : List Place) (p : ℕ) (period : Period p) (divide : Divide ps p) 
   -- The slots of an offset are all free exactly if its own slot is.
   all-free-slot : (o : ℕ) → allFree ps p o ≡ not (isTaken ps o)
   unfolding allFree
-  all-free-slot o = at (isTaken ps o) refl (decided (allFree ps p o))
+  all-free-slot o = at (isTaken ps o) refl
     where
       pos : 0 < WHOLE / p
       pos = le-div-iff-mul-le {k = p} {x = 1} {y = WHOLE} (period-pos p period) .1 (omega (arith, period-le p period))
@@ -66,10 +67,9 @@ module _ (ps : List Place) (p : ℕ) (period : Period p) (divide : Divide ps p) 
       same : (b : Bool) → isTaken ps o ≡ b → (m : ℕ) → not (isTaken ps (o + m * p)) ≡ not b
       same b e m = ap not (taken-class ps p divide o m ∙ e)
 
-      at : (b : Bool) → isTaken ps o ≡ b → (allFree ps p o ≡ true) ⊎ (allFree ps p o ≡ false) → allFree ps p o ≡ not b
-      at false e d = every-all _ (WHOLE / p) (λ m k. same false e m)
-      at true e (inl t) = absurd (true-false (every-at (λ m. not (isTaken ps (o + m * p))) (WHOLE / p) t 0 pos) (same true e 0))
-      at true e (inr f) = f
+      at : (b : Bool) → isTaken ps o ≡ b → allFree ps p o ≡ not b
+      at false e = every-all _ (WHOLE / p) (λ m k. same false e m)
+      at true e = every-not _ (WHOLE / p) 0 pos (same true e 0)
 
   -- So the largest free offset is the largest whose own slot is free.
   clear-free : (n : ℕ) → lastClear ps (suc n) ≡ asFree (lastFree ps p n)
@@ -89,7 +89,7 @@ module _ (ps : List Place) (p : ℕ) (period : Period p) (divide : Divide ps p) 
 -- ---- the demands, one by one
 
 -- So far some places are taken and settled, and the rest of the demands, in order, go on from there.
-pub record Reached (es : List Entry) (rest : List Demand) (taken : List Bool) (placed : List Entry) : Type 0 where
+pub record Reached (es : List Entry) (rest : List Demand) (taken : Marks) (placed : List Entry) : Type 0 where
   pub places : List Place
   pub says : Says taken places
   pub settled : placed ≡ settle es places
@@ -99,7 +99,7 @@ pub record Reached (es : List Entry) (rest : List Demand) (taken : List Bool) (p
 
 -- At the start no slot is taken.
 pub reached-none : (es : List Entry) → entriesInRange es ≡ true → (ranks : List ℕ) (count : ℕ) → Ranked es ranks count
-    → (taken : List Bool) → Says taken [] → Reached es (drop 0 (demandsOf ranks count)) taken es
+    → (taken : Marks) → Says taken [] → Reached es (drop 0 (demandsOf ranks count)) taken es
 unfolding placement settle demandOf
 reached-none es h ranks count k taken s = record {
   places = [];
@@ -156,7 +156,7 @@ placed-some : (es : List Entry) (ps : List Place) → placement es ≡ some ps �
 unfolding placedOf
 placed-some es ps e = rw (placedOf, e)
 
-module _ (es : List Entry) (d : Demand) (rest : List Demand) (taken : List Bool) (placed : List Entry) (r : Reached es (d ∷ rest) taken placed) where
+module _ (es : List Entry) (d : Demand) (rest : List Demand) (taken : Marks) (placed : List Entry) (r : Reached es (d ∷ rest) taken placed) where
   -- Its last offset is below its period, which is at most 256.
   pub reached-fair : (d .last < d .period) × (d .period ≤ WHOLE)
   reached-fair = (r .order .0 .1, period-le (d .period) (r .order .0 .0))
@@ -178,8 +178,8 @@ module _ (es : List Entry) (d : Demand) (rest : List Demand) (taken : List Bool)
       reached-offset = omega (arith, clear-below (r .places) (l + 1) o (sym (found (r .places) (r .says)) ∙ e), reached-fair)
 
       -- and with it taken and settled the rest of the demands follow.
-      pub reached-more : (p i : ℕ) (at : Entry) (after : List Bool) → p ≡ d .period → i ≡ d .id → at ≡ withOffset o (entryOf es i)
-          → Marks taken p o after
+      pub reached-more : (p i : ℕ) (at : Entry) (after : Marks) → p ≡ d .period → i ≡ d .id → at ≡ withOffset o (entryOf es i)
+          → TakenToo taken p o after
           → Reached es rest after (set placed i at)
       unfolding settle
       reached-more p i at after period id entry marked = record {
@@ -198,23 +198,23 @@ module _ (es : List Entry) (d : Demand) (rest : List Demand) (taken : List Bool)
           divide q g (inr n) m = r .divide q g n (inr m)
 
 -- Once every demand has its place, the entries are settled.
-pub reached-all : (es : List Entry) (taken : List Bool) (placed : List Entry) → Reached es [] taken placed → placedOf es ≡ record { found = true; entries = placed }
+pub reached-all : (es : List Entry) (taken : Marks) (placed : List Entry) → Reached es [] taken placed → placedOf es ≡ record { found = true; entries = placed }
 unfolding placeFrom
 reached-all es taken placed r = rw (r .settled) (placed-some es (r .places) (r .onward))
 
 -- ---- the turns
 
 -- After i turns the first i of the ranks' demands have their places.
-pub record Turn (es : List Entry) (ranks : List ℕ) (count : ℕ) (taken : List Bool) (placed : List Entry) (i : ℕ) : Type 0 where
+pub record Turn (es : List Entry) (ranks : List ℕ) (count : ℕ) (taken : Marks) (placed : List Entry) (i : ℕ) : Type 0 where
   pub inside : i ≤ count
   pub ranked : Ranked es ranks count
   pub reached : Reached es (drop i (demandsOf ranks count)) taken placed
 
 -- The demand of rank i is the next.
-abbrev pub Next : List Entry → List ℕ → ℕ → List Bool → List Entry → ℕ → Type 0
+abbrev pub Next : List Entry → List ℕ → ℕ → Marks → List Entry → ℕ → Type 0
 Next es ranks count taken placed i = Reached es (demandAt (getD ranks i 0) ∷ drop (i + 1) (demandsOf ranks count)) taken placed
 
-module _ (es : List Entry) (ranks : List ℕ) (count : ℕ) (taken : List Bool) (placed : List Entry) (i : ℕ) (t : Turn es ranks count taken placed i) where
+module _ (es : List Entry) (ranks : List ℕ) (count : ℕ) (taken : Marks) (placed : List Entry) (i : ℕ) (t : Turn es ranks count taken placed i) where
   -- The next turn places the demand of rank i,
   pub turn-next : i < count → Next es ranks count taken placed i
   turn-next l = subst (λ (ds : List Demand). Reached es ds taken placed) (next-demand es ranks count i (t .ranked) l) (t .reached)

@@ -2,7 +2,6 @@
 -- Assumes nothing.
 use borrow.Author.Tests.{eq-eqb, ne-eqb}
 use lib.Dec.{eqb}
-use lib.ListN.{getD}
 use mathlib.Core.Bool.{Bool, true, false, _||_}
 use mathlib.Core.List.{List}
 use mathlib.Core.Path.{_≡_, refl, sym, ap, _∙_, subst}
@@ -12,10 +11,11 @@ use native.Mathlib.Omega.{arith}
 use Prim.Native.Nat.{ℕ, zero, suc, _+_, _%_, _≤_, _<_}
 use Rattle.placement.specs.declared.taken.Free.{Free}
 use Rattle.placement.specs.declared.taken.Free.the-variants.{At, Nowhere}
-use Rattle.placement.specs.Placed.{Says, lastClear, Finds, Marks}
+use Rattle.placement.specs.Placed.{Says, lastClear, Finds, TakenToo}
 use Rattle.placement.specs.Placement.{Place, isTaken}
 use Rattle.slots.specs.Limits.{WHOLE}
 use Rattle.timetable.proofs.Marks.{Marked}
+use Rattle.timetable.specs.Marks.{Marks, isMarked}
 
 -- ---- the answers
 
@@ -30,19 +30,19 @@ at-nowhere f o p q = let z : _≡_ {A = ℕ} 0 1 = cc in omega arith
 -- ---- the search
 
 -- The search down from the last offset has come to the slots below i.
-abbrev pub Passed : List Bool → ℕ → ℕ → Type 0
+abbrev pub Passed : Marks → ℕ → ℕ → Type 0
 Passed table last i = (ps : List Place) → Says table ps → lastClear ps (last + 1) ≡ lastClear ps i
 
-module _ (table : List Bool) (last i : ℕ) (passed : Passed table last i) where
+module _ (table : Marks) (last i : ℕ) (passed : Passed table last i) where
   -- A free slot there ends it,
-  pub passed-free : (n : ℕ) → i ≡ n + 1 → n < WHOLE → getD table n false ≡ false → Finds table last (At n)
+  pub passed-free : (n : ℕ) → i ≡ n + 1 → n < WHOLE → isMarked table n ≡ false → Finds table last (At n)
   unfolding lastClear
   passed-free n e inside h ps s =
       let k : isTaken ps n ≡ false = sym (s .slot n inside) ∙ h in
       sym (passed ps s ∙ rw (e, add-one, lastClear, k) refl)
 
   -- a taken one is passed over,
-  pub passed-on : (n j : ℕ) → i ≡ n + 1 → j ≡ n → n < WHOLE → getD table n false ≡ true → Passed table last j
+  pub passed-on : (n j : ℕ) → i ≡ n + 1 → j ≡ n → n < WHOLE → isMarked table n ≡ true → Passed table last j
   unfolding lastClear
   passed-on n j e f inside h ps s =
       let k : isTaken ps n ≡ true = sym (s .slot n inside) ∙ h in
@@ -73,12 +73,12 @@ clear-below ps n o e = subst (Within n) e (within ps n)
 
 -- ---- the marks
 
-module _ (before : List Bool) (period offset : ℕ) where
+module _ (before : Marks) (period offset : ℕ) where
   -- Past the last slot the table says what the places and one more say.
-  pub marked-all : (after : List Bool) (slot : ℕ) → WHOLE ≤ slot → Marked before period offset after slot → Marks before period offset after
+  pub marked-all : (after : Marks) (slot : ℕ) → WHOLE ≤ slot → Marked before period offset after slot → TakenToo before period offset after
   unfolding isTaken
-  marked-all after slot l m ps s i = record { size = m .size ∙ s .size; slot = λ n k. at n k (ℕ-discrete (n % period) offset) }
+  marked-all after slot l m ps s i = record { size = m .size (s .size); slot = λ n k. at n k (ℕ-discrete (n % period) offset) }
     where
-      at : (n : ℕ) → n < WHOLE → Dec (n % period ≡ offset) → getD after n false ≡ eqb (n % period) offset || isTaken ps n
-      at n k (yes e) = m .hit n (omega (arith, s .size)) (omega arith) e ∙ ap (λ (b : Bool). b || isTaken ps n) (sym (eq-eqb _ _ e))
+      at : (n : ℕ) → n < WHOLE → Dec (n % period ≡ offset) → isMarked after n ≡ eqb (n % period) offset || isTaken ps n
+      at n k (yes e) = m .hit (s .size) n k (omega arith) e ∙ ap (λ (b : Bool). b || isTaken ps n) (sym (eq-eqb _ _ e))
       at n k (no e) = m .other n (λ h. e) ∙ s .slot n k ∙ ap (λ (b : Bool). b || isTaken ps n) (sym (ne-eqb _ _ e))

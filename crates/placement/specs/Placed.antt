@@ -1,7 +1,7 @@
 -- The cyclic placement as the code answers it, and what the code's parts say: a demand as one number, the taken slots as a table.
 use lib.Dec.{ltb}
 use lib.ListN.{getD, length, take}
-use mathlib.Core.Bool.{Bool, true, false}
+use mathlib.Core.Bool.{true, false}
 use mathlib.Core.List.{List, [], _∷_, map}
 use mathlib.Core.Option.{none, some}
 use mathlib.Core.Path.{_≡_}
@@ -12,6 +12,7 @@ use Rattle.placement.specs.declared.taken.Free.the-variants.{At, Nowhere
 use Rattle.placement.specs.Placement.{Demand, Place, isTaken, ordered, placement, settle}
 use Rattle.slots.specs.Limits.{IDS, WHOLE}
 use Rattle.timetable.specs.declared.Entry.{Entry}
+use Rattle.timetable.specs.Marks.{Marks, OfCycle, isMarked}
 
 -- The placement of the entries: found, with the entries at the offsets of their places; or not, with the entries as they are.
 unfoldable pub placedOf : List Entry → Placed
@@ -45,9 +46,9 @@ pub record Ranked (es : List Entry) (ranks : List ℕ) (count : ℕ) : Type 0 wh
   pub demands : demandsOf ranks count ≡ ordered es IDS
 
 -- The table says of each slot of the cycle what the places say: whether it is taken.
-pub record Says (table : List Bool) (ps : List Place) : Type 0 where
-  pub size : length table ≡ WHOLE
-  pub slot : (n : ℕ) → n < WHOLE → getD table n false ≡ isTaken ps n
+pub record Says (table : Marks) (ps : List Place) : Type 0 where
+  pub size : OfCycle table
+  pub slot : (n : ℕ) → n < WHOLE → isMarked table n ≡ isTaken ps n
 
 -- The largest slot below n that is free, or none.
 unfoldable pub lastClear : List Place → ℕ → Free
@@ -55,10 +56,10 @@ lastClear ps zero = Nowhere
 lastClear ps (suc n) = elim (isTaken ps n) [ true ↦ lastClear ps n | false ↦ At n ]
 
 -- The answer is the largest offset up to the last offset that is free beside the places that the table says.
-abbrev pub Finds : List Bool → ℕ → Free → Type 0
+abbrev pub Finds : Marks → ℕ → Free → Type 0
 Finds table last found = (ps : List Place) → Says table ps → found ≡ lastClear ps (last + 1)
 
 -- One table says what the other says and besides that the slots of an offset are taken, whoever takes them.
-abbrev pub Marks : List Bool → ℕ → ℕ → List Bool → Type 0
-Marks before period offset after =
+abbrev pub TakenToo : Marks → ℕ → ℕ → Marks → Type 0
+TakenToo before period offset after =
     (ps : List Place) → Says before ps → (i : ℕ) → Says after (record { id = i; period = period; offset = offset } ∷ ps)

@@ -2,7 +2,7 @@
 ghost use mathlib.Core.List.{[]};
 ghost use mathlib.Core.Path.{_≡_};
 ghost use Prim.Native.Nat.{ℕ, _<_, _≤_};
-ghost use Rattle.placement.specs.Placed.{Says, Finds, Marks};
+ghost use Rattle.placement.specs.Placed.{Says, Finds, TakenToo};
 ghost use Rattle.slots.specs.Limits.{WHOLE};
 use timetable::Timetable;
 
@@ -29,7 +29,7 @@ pub fn none_taken() -> Taken
 pub fn take_last(taken: &mut Taken, period: usize, last: usize) -> Free
     requires { ⌜ (last < period) × (period ≤ WHOLE) ⌝ }
     ensures { λ r. ⌜ Finds (now (taken .entry)) last r ⌝ }
-    ensures { λ r. ⌜ ((o : ℕ) → r ≡ Free.At o → Marks (now (taken .entry)) period o (now (taken .exit))) ⌝ }
+    ensures { λ r. ⌜ ((o : ℕ) → r ≡ Free.At o → TakenToo (now (taken .entry)) period o (now (taken .exit))) ⌝ }
 {
     let found = last_free(taken, last);
     if let Free::At(offset) = found {
@@ -58,7 +58,7 @@ fn last_free(taken: &Taken, last: usize) -> Free
 // The slots of the offset are taken.
 fn mark(taken: &mut Taken, period: usize, offset: usize)
     requires { ⌜ (offset < period) × (period ≤ WHOLE) ⌝ }
-    ensures { λ r. ⌜ Marks (now (taken .entry)) period offset (now (taken .exit)) ⌝ }
+    ensures { λ r. ⌜ TakenToo (now (taken .entry)) period offset (now (taken .exit)) ⌝ }
 {
     let mut slot = offset;
     while slot < WHOLE {

@@ -1,5 +1,5 @@
 -- What the questions about the numbers below a number tell. Assumes nothing.
-use mathlib.Core.Bool.{Bool, true, false, cond, _&&_, _||_, true≢false, and-eq-true-iff}
+use mathlib.Core.Bool.{Bool, true, false, cond, _&&_, true≢false, and-eq-true-iff}
 use mathlib.Core.Logic.{_⊎_, inl, inr}
 use mathlib.Core.Option.{Option, none, some}
 use mathlib.Core.Path.{_≡_, refl, sym, ap, ap₂, _∙_}
@@ -11,11 +11,6 @@ use Rattle.slots.specs.Below.{every, first, count}
 -- Both parts of a test that passes.
 pub and-both : (a b : Bool) → a && b ≡ true → (a ≡ true) × (b ≡ true)
 and-both a b = and-eq-true-iff a b .0
-
--- One of two tests passes.
-pub or-either : (a b : Bool) → a || b ≡ true → (a ≡ true) ⊎ (b ≡ true)
-or-either true b e = inl refl
-or-either false b e = inr e
 
 -- A test passes or fails.
 pub decided : (b : Bool) → (b ≡ true) ⊎ (b ≡ false)
@@ -39,6 +34,14 @@ module _ (test : ℕ → Bool) where
   unfolding every
   every-all zero h = refl
   every-all (suc n) h = ap₂ _&&_ (every-all n (λ m k. h m (omega arith))) (h n (omega arith))
+
+  -- Where some number fails, not every number passes.
+  pub every-not : (n m : ℕ) → m < n → test m ≡ false → every n test ≡ false
+  every-not n m l h = at (decided (every n test))
+    where
+      at : (every n test ≡ true) ⊎ (every n test ≡ false) → every n test ≡ false
+      at (inl k) = absurd (true-false (every-at n k m l) h)
+      at (inr k) = k
 
   -- Where not every number passes, some number fails.
   pub every-fails : (n : ℕ) → every n test ≡ false → (m : ℕ) × (m < n) × (test m ≡ false)

@@ -1,6 +1,5 @@
 -- The figures of one partition say what document 01 says of them: the test of the bound is "below 256 R", the room is the number of idle slots that
--- the bound bears and not one more, and the last offset is the largest offset below the period within the room. Each is a fact of division or of the
--- smaller of two numbers. Assumes nothing.
+-- the bound bears and not one more, and the last offset is below the period. Each is a fact of division or of the smaller of two numbers. Assumes nothing.
 use borrow.Author.Tests.{lt-ltb, ltb-true}
 use mathlib.Core.Bool.{true}
 use mathlib.Core.Logic.{_↔_}
@@ -26,13 +25,3 @@ module _ (period bound s : ℕ) where
   pub last-inside : 0 < period → lastOffsetOf period bound s < period
   unfolding lastOffsetOf
   last-inside p = omega arith
-
-  -- It is at most the room.
-  pub last-room : lastOffsetOf period bound s ≤ roomOf period bound s
-  unfolding lastOffsetOf
-  last-room = omega arith
-
-  -- No larger offset is both.
-  pub last-most : (o : ℕ) → o < period → o ≤ roomOf period bound s → o ≤ lastOffsetOf period bound s
-  unfolding lastOffsetOf
-  last-most o p l = omega arith

@@ -87,46 +87,12 @@ module _ (run : Run) (i : ℕ) where
           subst (λ (x : ℕ). run x .newly i ≡ false) (sym x) k
       at (no z) = h m p (omega arith)
 
-  -- One slot more: the window is extended, or the empty one attains 0.
-  attains-suc : (t : ℕ) → run (suc t) .newly i ≡ false → Attains t (shortfall run i t) → Attains (suc t) (shortfallOver run i t)
-  unfolding entitlement supply shortfallOver
-  attains-suc t e k = at (ℕ-discrete (s + w) (WHOLE * one b + overSlot b w s))
-    where
-      b : Bool
-      b = own run i t
-
-      w : ℕ
-      w = run t .weight i
-
-      s : ℕ
-      s = shortfall run i t
-
-      at : Dec (s + w ≡ WHOLE * one b + overSlot b w s) → Attains (suc t) (overSlot b w s)
-      at (yes q) = record {
-        from = k .from;
-        size = suc (k .size);
-        ends = omega (arith, k .ends);
-        since = since-more (k .from) (k .size) t (k .ends) (k .since) e;
-        equal = rw (k .ends) (omega (arith, k .equal, q));
-      }
-      at (no q) = empty-attains (suc t) (overSlot b w s) (over-zero b w s q)
-
-  -- Some window attains the shortfall, at every slot of every run.
-  pub attains : (t : ℕ) → Attains t (shortfall run i t)
-  unfolding shortfall
-  attains zero = empty-attains 0 0 refl
-  attains (suc t) = at (run (suc t) .newly i) refl (attains t)
-    where
-      at : (b : Bool) → run (suc t) .newly i ≡ b → Attains t (shortfall run i t) → Attains (suc t) (shortfall run i (suc t))
-      at true e k = empty-attains (suc t) (shortfall run i (suc t)) (shortfall-newly (suc t) e)
-      at false e k = subst (Attains (suc t)) (sym (shortfall-suc t e)) (attains-suc t e k)
-
   -- A window with the last slot t that counts nothing anew and is underserved by exactly s.
   abbrev AttainsLast : ℕ → ℕ → Type 0
   AttainsLast t s =
       (a : ℕ) × (n : ℕ) × (a + n ≡ t) × Since run i a n × (entitlement run i a (suc n) ≡ WHOLE * supply run i a (suc n) + s)
 
-  -- Some window attains the shortfall at the end of slot t too, unless nothing is owed there.
+  -- A window that attains the shortfall at slot t attains the one at its end too, unless nothing is owed there.
   attains-over : (t : ℕ) → Attains t (shortfall run i t)
       → (shortfallOver run i t ≡ 0) ⊎ AttainsLast t (shortfallOver run i t)
   unfolding entitlement supply shortfallOver
@@ -145,6 +111,30 @@ module _ (run : Run) (i : ℕ) where
           → (overSlot b w s ≡ 0) ⊎ AttainsLast t (overSlot b w s)
       at (yes q) = inr (k .from, k .size, k .ends, k .since, rw (k .ends) (omega (arith, k .equal, q)))
       at (no q) = inl (over-zero b w s q)
+
+  -- So at the start of the next slot, where it counts nothing anew, that window attains it, or the empty one.
+  attains-suc : (t : ℕ) → run (suc t) .newly i ≡ false → Attains t (shortfall run i t) → Attains (suc t) (shortfallOver run i t)
+  attains-suc t e k = at (attains-over t k)
+    where
+      at : (shortfallOver run i t ≡ 0) ⊎ AttainsLast t (shortfallOver run i t) → Attains (suc t) (shortfallOver run i t)
+      at (inl z) = empty-attains (suc t) (shortfallOver run i t) z
+      at (inr w) = record {
+        from = w .0;
+        size = suc (w .1);
+        ends = omega (arith, w .2);
+        since = since-more (w .0) (w .1) t (w .2) (w .3) e;
+        equal = w .4;
+      }
+
+  -- Some window attains the shortfall, at every slot of every run.
+  pub attains : (t : ℕ) → Attains t (shortfall run i t)
+  unfolding shortfall
+  attains zero = empty-attains 0 0 refl
+  attains (suc t) = at (run (suc t) .newly i) refl (attains t)
+    where
+      at : (b : Bool) → run (suc t) .newly i ≡ b → Attains t (shortfall run i t) → Attains (suc t) (shortfall run i (suc t))
+      at true e k = empty-attains (suc t) (shortfall run i (suc t)) (shortfall-newly (suc t) e)
+      at false e k = subst (Attains (suc t)) (sym (shortfall-suc t e)) (attains-suc t e k)
 
   -- Where the shortfall at the end of slot t is below 256 R, every window with the last slot t keeps its bound.
   pub kept-windows : (a n : ℕ) → shortfallOver run i (a + n) < WHOLE * run (a + n) .bound i → Since run i a n → KeepsBound run i a n

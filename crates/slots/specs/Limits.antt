@@ -28,3 +28,7 @@ LARGEST-K = 8
 -- The highest slot in a request or query.
 abbrev pub LAST-SLOT : ℕ
 LAST-SLOT = 2 ^ 48 - 1
+
+-- The number told for an idle slot.
+abbrev pub IDLE : ℕ
+IDLE = 255

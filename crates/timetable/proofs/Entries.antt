@@ -16,6 +16,16 @@ module _ (f : ℕ → Entry → Entry) where
   length-each zero es = refl
   length-each (suc n) es = length-set (each f n es) n (f n (entryOf es n)) ∙ length-each n es
 
+  -- One entry more is put.
+  pub each-next : (start : List Entry) (n : ℕ) (es : List Entry) (e : Entry) → es ≡ each f n start → e ≡ f n (entryOf start n)
+      → set es n e ≡ each f (n + 1) start
+  unfolding each
+  each-next start n es e p q = rw (add-one, p, q)
+
+  -- Once n has come to m, m entries are put.
+  pub each-all : (start : List Entry) (n m : ℕ) (es : List Entry) → m ≤ n → n ≤ m → es ≡ each f n start → es ≡ each f m start
+  each-all start n m es a b p = let k : n ≡ m = omega arith in rw k at p
+
   -- What stands at the first n ids afterwards.
   pub each-at : (n : ℕ) (es : List Entry) → n ≤ length es → (i : ℕ) → i < n → entryOf (each f n es) i ≡ f i (entryOf es i)
   unfolding each
@@ -25,9 +35,3 @@ module _ (f : ℕ → Entry → Entry) where
           → entryOf (set (each f n es) n (f n (entryOf es n))) i ≡ f i (entryOf es i)
       at (yes e) ih = rw e (getD-set-same (each f n es) n (f n (entryOf es n)) noEntry (omega (arith, length-each n es)))
       at (no e) ih = getD-set-other (each f n es) n i (f n (entryOf es n)) noEntry e ∙ ih (omega arith)
-
-  -- One entry more.
-  pub each-next : (start : List Entry) (n : ℕ) (es : List Entry) (e : Entry) → es ≡ each f n start → e ≡ f n (entryOf start n)
-      → set es n e ≡ each f (n + 1) start
-  unfolding each
-  each-next start n es e p q = rw (add-one n, p, q)

@@ -24,9 +24,6 @@ unlisted p h = rw h
 pub listed : (p : ℕ) → (p ≡ 0 → ⊥) → ltb 0 p ≡ true
 listed p h = lt-ltb 0 p (omega arith)
 
-pub not-zero : (p : ℕ) → (p ≡ 0 → ⊥) → 0 < p
-not-zero p h = omega arith
-
 -- The weight.
 pub weight-none : (p : ℕ) → p ≡ 0 → weightOf p ≡ 0
 unfolding weightOf

@@ -3,13 +3,12 @@ use borrow.Author.Tests.{not-true, not-false}
 use lib.ListN.{length, length-map}
 use mathlib.Core.Bool.{Bool, true, false, not}
 use mathlib.Core.List.{List, map}
-use mathlib.Core.Logic.{_⊎_, inl, inr}
 use mathlib.Core.Option.{none, some}
 use mathlib.Core.Path.{_≡_, sym, ap, _∙_}
 use native.Mathlib.Numerals.{add-one}
 use native.Mathlib.Omega.{arith}
 use Prim.Native.Nat.{ℕ, suc, _+_, _≤_, _<_}
-use Rattle.slots.proofs.Below.{every-at, true-false, decided, first-none, some-first}
+use Rattle.slots.proofs.Below.{every-not, first-none, some-first}
 use Rattle.slots.specs.Below.{every, first}
 
 -- An array of structs is known by the list of what its elements are made of, which is as long.
@@ -26,11 +25,7 @@ passed r s e h = sym e ∙ not-false r h
 module _ (test : ℕ → Bool) where
   -- A scan of all numbers below n that has come to m with the answer r: it stops where the test fails,
   pub scan-stops : (n m : ℕ) (r : Bool) → m < n → r ≡ test m → not r ≡ true → false ≡ every n test
-  scan-stops n m r l e h = at (decided (every n test))
-    where
-      at : (every n test ≡ true) ⊎ (every n test ≡ false) → false ≡ every n test
-      at (inl k) = absurd (true-false (every-at test n k m l) (refused r (test m) e h))
-      at (inr k) = sym k
+  scan-stops n m r l e h = sym (every-not test n m l (refused r (test m) e h))
 
   -- goes on where it passes,
   pub scan-goes : (m : ℕ) (r : Bool) → every m test ≡ true → r ≡ test m → not r ≡ false → every (m + 1) test ≡ true

@@ -104,7 +104,7 @@ fn phase(n: u64, period: u16) -> u64
 }
 
 // What is owed some slots after an own slot: it pays 256 of what was owed, surplus is not kept, and the slots since add their weight.
-fn after_own(owed: u16, since: u16) -> u16
+pub fn after_own(owed: u16, since: u16) -> u16
     requires { ⌜ owed + since < 65536 ⌝ }
     ensures { λ r. ⌜ r ≡ owed - WHOLE + since ⌝ }
 {

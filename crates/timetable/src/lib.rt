@@ -7,6 +7,7 @@ mod figures; // figures.rt: the figures of one entry
 mod soundness; // soundness.rt: whether a timetable is sound
 mod serving; // serving.rt: whom it lists, and whom a slot serves
 
+pub use figures::after_own;
 pub use soundness::is_bound;
 
 // What a timetable holds for one id. A period of 0 says that the id is not listed.

@@ -1,12 +1,13 @@
 // Whether a timetable is sound, clause by clause, whatever its fields hold. Nothing here is refused.
 ghost use lib.Dec.{eqb, ltb};
-ghost use lib.ListN.{getD, length};
+ghost use lib.ListN.{getD};
 ghost use mathlib.Core.Bool.{true, cond, _&&_, _||_};
 ghost use mathlib.Core.Path.{_≡_};
 ghost use Prim.Native.Nat.{_+_, _*_, _≤_};
 ghost use Rattle.slots.specs.Below.{every};
-ghost use Rattle.slots.specs.Limits.{LONGEST, WHOLE};
+ghost use Rattle.slots.specs.Limits.{LONGEST};
 ghost use Rattle.slots.specs.Shortfall.{keeps};
+ghost use Rattle.timetable.specs.Marks.{OfCycle};
 ghost use Rattle.timetable.specs.Sound.{requestInRange, lengthInRange, baseAsStated, ownersListed, isPeriod, isBound, entryInRange, entryBlank, entriesInRange, noneShared, isSound};
 ghost use Rattle.timetable.specs.Taken.{Takes};
 ghost use Rattle.timetable.specs.Timetable.{isListed, weight};
@@ -159,7 +160,7 @@ impl Entry {
 
 // An entry takes its slots of one cycle, if none of them is taken.
 fn take_slots(taken: &mut [bool; WHOLE], e: Entry) -> bool
-    requires { ⌜ length (now taken) ≡ WHOLE ⌝ }
+    requires { ⌜ OfCycle (now taken) ⌝ }
     requires { ⌜ (isListed e ≡ true → entryInRange e ≡ true) ⌝ }
     ensures { λ r. ⌜ Takes (now (taken .entry)) e r (now (taken .exit)) ⌝ }
 {

@@ -19,17 +19,13 @@ use Rattle.timetable.proofs.Entries.{length-each, each-at}
 use Rattle.timetable.proofs.Ranges.{InRange}
 use Rattle.timetable.proofs.Sound.{Ranged}
 use Rattle.timetable.specs.declared.Entry.{Entry}
-use Rattle.timetable.specs.Timetable.{noEntry, entryOf, isListed, weight, withShortfall}
+use Rattle.timetable.specs.Timetable.{noEntry, entryOf, isListed, weight}
 use Rattle.transition.proofs.UrgentRule.{Told, told, unmissed, room-bears, own-bears}
 use Rattle.transition.specs.declared.Plan.{Plan}
 use Rattle.transition.specs.RuleThree.{GoesTo, MostUrgent}
-use Rattle.transition.specs.Transition.{mostUrgent, isMissed, overAll, longer}
+use Rattle.transition.specs.Transition.{mostUrgent, isMissed, overEntry, overAll, longer}
 
 -- ---- one slot
-
--- An entry over one slot, own or not.
-abbrev pub overEntry : Bool → Entry → Entry
-overEntry own e = withShortfall (overSlot own (weight e) (e .shortfall)) e
 
 module _ (es : List Entry) (u : ℕ) where
   pub length-over : length (overAll es u) ≡ length es

@@ -120,17 +120,13 @@ module _ (plan : Plan) where
   pub tries-count : (limit : ℕ) → searchFrom limit 0 plan .tries ≡ count (suc limit) (isSearched plan)
   tries-count limit = at (searchFrom limit 0 plan) (search-ends limit 0 plan)
     where
+      -- lengths 0 to k were searched, and no others
+      counted : (s : Searched) (k : ℕ) → k ≤ limit → s .tries ≡ suc k → ((m : ℕ) → m < suc k → isSearched plan m ≡ true)
+          → ((m : ℕ) → suc k ≤ m → m < suc limit → isSearched plan m ≡ false) → s .tries ≡ count (suc limit) (isSearched plan)
+      counted s k l t f g = t ∙ sym (count-first (isSearched plan) (suc k) (suc limit) (omega arith) f g)
+
       at : (s : Searched) → Ended limit 0 plan s → s .tries ≡ count (suc limit) (isSearched plan)
-      at s (found k l h p e ps q i) =
-          ap (λ (s : Searched). s .tries) i
-          ∙ sym
-          (count-first
-          (isSearched plan)
-          (suc k)
-          (suc limit)
-          (omega arith)
-          (λ m j. upto m j (ℕ-discrete m k))
-          (λ m j _. past-found k p ps e q m j))
+      at s (found k l h p e ps q i) = counted s k (omega arith) (ap (λ (s : Searched). s .tries) i) (λ m j. upto m j (ℕ-discrete m k)) (λ m j _. past-found k p ps e q m j)
         where
           upto : (m : ℕ) → m < suc k → Dec (m ≡ k) → isSearched plan m ≡ true
           upto m j (yes z) = ap (isSearched plan) z ∙ searched-first k h p e
@@ -138,15 +134,6 @@ module _ (plan : Plan) where
               let w = h m (omega arith) in
               searched-first m (λ x y. h x (omega arith)) (w .0) (w .1)
       at s (missed k l h p e q i) =
-          ap (λ (s : Searched). s .tries) i
-          ∙ sym
-          (count-first
-          (isSearched plan)
-          (suc k)
-          (suc limit)
-          (omega arith)
-          (searched-all k h)
-          (λ m j _. past-missed m (reach-past k 0 plan p e q m j)))
+          counted s k (omega arith) (ap (λ (s : Searched). s .tries) i) (searched-all k h) (λ m j _. past-missed m (reach-past k 0 plan p e q m j))
       at s (exhausted h p i) =
-          ap (λ (s : Searched). s .tries) i
-          ∙ sym (count-first (isSearched plan) (suc limit) (suc limit) (omega arith) (searched-all limit h) (λ m j l. absurd (omega arith)))
+          counted s limit (omega arith) (ap (λ (s : Searched). s .tries) i) (searched-all limit h) (λ m j l. absurd (omega arith))

@@ -14,7 +14,6 @@ use Rattle.placement.proofs.Complete.{placement-none}
 use Rattle.placement.specs.Placement.{placement}
 use Rattle.slots.proofs.Below.{true-false}
 use Rattle.slots.specs.Limits.{IDS, LONGEST}
-use Rattle.slots.specs.Shortfall.{overSlot}
 use Rattle.slots.specs.Slots.{isOwner}
 use Rattle.timetable.proofs.Entries.{each-at, length-each}
 use Rattle.timetable.proofs.Sound.{Ranged}
@@ -27,7 +26,7 @@ use Rattle.transition.proofs.Walk.{owners-stay, reach-before, step-befo
 use Rattle.transition.specs.declared.Plan.{Plan}
 use Rattle.transition.specs.Reach.{AnyoneBreaks, reach}
 use Rattle.transition.specs.RuleThree.{ByRuleThree, GoesTo, MostUrgent, walkedTo}
-use Rattle.transition.specs.Transition.{longer, overAll}
+use Rattle.transition.specs.Transition.{longer, overAll, overEntry}
 
 -- Lists of entries with the same entry for each id are the same.
 pub same-entries : (es fs : List Entry) → length es ≡ IDS → length fs ≡ IDS → ((i : ℕ) → i < IDS → entryOf es i ≡ entryOf fs i) → es ≡ fs
@@ -95,7 +94,7 @@ module _ (start : List Entry) (len : length start ≡ IDS) where
       walked-at owners (suc n) i k
       ∙ sym
       (over-at (walkedTo start owners n) (getD owners n 0) (length-walked owners n) i k
-      ∙ ap (λ (e : Entry). withShortfall (overSlot (eqb i (getD owners n 0)) (weight e) (e .shortfall)) e) (walked-at owners n i k)))
+      ∙ ap (overEntry (eqb i (getD owners n 0))) (walked-at owners n i k)))
 
   -- Owners that agree below n walk to the same entries.
   pub walked-same : (a b : List ℕ) (n : ℕ) → ((m : ℕ) → m < n → getD a m 0 ≡ getD b m 0) → walkedTo start a n ≡ walkedTo start b n

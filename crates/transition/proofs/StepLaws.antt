@@ -8,24 +8,22 @@ use mathlib.Core.List.{List}
 use mathlib.Core.Logic.{_⊎_, inl, inr}
 use mathlib.Core.Option.{Option, none, some}
 use mathlib.Core.Path.{_≡_, refl, sym, ap, _∙_, subst}
-use native.Mathlib.Nat.{div-le-self}
 use native.Mathlib.Numerals.{add-one}
 use native.Mathlib.Omega.{arith}
 use Prim.Native.Nat.{ℕ, _+_, _*_, _≤_, _<_}
 use Rattle.slots.proofs.Below.{decided}
 use Rattle.slots.specs.Below.{every}
 use Rattle.slots.specs.Limits.{IDS, WHOLE, LARGEST-BOUND}
-use Rattle.slots.specs.Shortfall.{overSlot, weightOf}
+use Rattle.slots.specs.Shortfall.{overSlot}
 use Rattle.timetable.proofs.Sound.{Ranged, ranged-from}
 use Rattle.timetable.specs.declared.Entry.{Entry}
 use Rattle.timetable.specs.Sound.{entriesInRange}
-use Rattle.timetable.specs.Timetable.{entryOf, isListed, weight, room, each, withShortfall}
-use Rattle.transition.proofs.Plans.{overEntry}
+use Rattle.timetable.specs.Timetable.{entryOf, isListed, weight, room, withShortfall}
 use Rattle.transition.proofs.UrgentRule.{Told, told}
 use Rattle.transition.specs.Coded.{urgentOf, bearsOne, nextOf}
 use Rattle.transition.specs.declared.Plan.{Plan}
 use Rattle.transition.specs.declared.Urgent.the-variants.{Id, Nobody}
-use Rattle.transition.specs.Transition.{moreUrgent, mostUrgent, isMissed, overAll, longer}
+use Rattle.transition.specs.Transition.{moreUrgent, mostUrgent, isMissed, overEntry, overAll, longer}
 
 -- ---- the most urgent
 
@@ -76,30 +74,30 @@ module _ (es : List Entry) where
           inr (urgent-beside n u l (b .0) ∙ ap (λ (x : Bool). cond x (some n) (some u)) t, b .1, b .2)
 
   -- What it is answered as.
-  pub best-nobody : (u least : ℕ) → Best es IDS u least → u ≡ IDS → Nobody ≡ urgentOf es (mostUrgent es IDS)
+  pub best-nobody : (u least : ℕ) → Best es IDS u least → u ≡ IDS → Nobody ≡ urgentOf (mostUrgent es IDS)
   unfolding urgentOf
   best-nobody u least (inl b) h = rw (b .0) refl
   best-nobody u least (inr b) h = absurd (omega (arith, b .1))
 
-  pub best-id : (u least : ℕ) → Best es IDS u least → (u ≡ IDS → ⊥) → Id u least ≡ urgentOf es (mostUrgent es IDS)
+  pub best-id : (u least : ℕ) → Best es IDS u least → (u ≡ IDS → ⊥) → Id u ≡ urgentOf (mostUrgent es IDS)
   unfolding urgentOf
   best-id u least (inl b) h = absurd (h (b .1))
-  best-id u least (inr b) h = rw (b .0, b .2) refl
-
-  -- What the code's answer says of the most urgent id.
-  pub urgent-nobody : (o : Option ℕ) → urgentOf es o ≡ Nobody → o ≡ none
-  unfolding urgentOf
-  urgent-nobody none e = refl
-  urgent-nobody (some u) e = absurd (let z : _≡_ {A = ℕ} 0 1 = cc in omega arith)
-
-  pub urgent-id : (o : Option ℕ) (u r : ℕ) → urgentOf es o ≡ Id u r → o ≡ some u
-  unfolding urgentOf
-  urgent-id none u r e = absurd (let z : _≡_ {A = ℕ} 0 1 = cc in omega arith)
-  urgent-id (some v) u r e = cc
+  best-id u least (inr b) h = rw (b .0) refl
 
   -- The most urgent id is an id.
   pub urgent-below : (u : ℕ) → mostUrgent es IDS ≡ some u → u < IDS
   urgent-below u e = subst (Told es IDS) e (told es IDS) .below
+
+-- What the code's answer says of the most urgent id.
+pub urgent-nobody : (o : Option ℕ) → urgentOf o ≡ Nobody → o ≡ none
+unfolding urgentOf
+urgent-nobody none e = refl
+urgent-nobody (some u) e = absurd (let z : _≡_ {A = ℕ} 0 1 = cc in omega arith)
+
+pub urgent-id : (o : Option ℕ) (u : ℕ) → urgentOf o ≡ Id u → o ≡ some u
+unfolding urgentOf
+urgent-id none u e = absurd (let z : _≡_ {A = ℕ} 0 1 = cc in omega arith)
+urgent-id (some v) u e = cc
 
 -- ---- the missed slot
 
@@ -128,11 +126,6 @@ missed-is es u b h = ap not h
 
 -- ---- the entries over the slot
 
--- A weight is at most 256.
-pub weight-most : (p : ℕ) → weightOf p ≤ WHOLE
-unfolding weightOf
-weight-most p = div-le-self WHOLE p
-
 -- An entry with the shortfall that the slot leaves it.
 pub over-as : (e : Entry) (own b : Bool) (w s : ℕ) → own ≡ b → w ≡ weight e → s ≡ overSlot b w (e .shortfall) → withShortfall s e ≡ overEntry own e
 over-as e own b w s h k p =
@@ -146,22 +139,6 @@ owes-less es h i k = at (decided (isListed (entryOf es i))) (ranged-from es h)
     at : (isListed (entryOf es i) ≡ true) ⊎ (isListed (entryOf es i) ≡ false) → Ranged es → entryOf es i .shortfall < WHOLE * LARGEST-BOUND
     at (inl l) r = let q = r .listed i k l in omega (arith, q .kept, q .bound-high)
     at (inr l) r = rw (r .blank i k l) (omega arith)
-
--- The entries of the ids below n over a slot that goes to u.
-abbrev pub overBelow : List Entry → ℕ → ℕ → List Entry
-overBelow es u n = each (λ i e. overEntry (eqb i u) e) n es
-
-module _ (es : List Entry) (u : ℕ) where
-  -- One entry more.
-  pub over-more : (n : ℕ) (over : List Entry) (e : Entry) → over ≡ overBelow es u n → e ≡ overEntry (eqb n u) (entryOf es n)
-      → set over n e ≡ overBelow es u (n + 1)
-  unfolding each
-  over-more n over e o h = rw (add-one, o, h)
-
-  -- All are over it.
-  pub over-end : (n : ℕ) (over : List Entry) → over ≡ overBelow es u n → n ≡ IDS → over ≡ overAll es u
-  unfolding overAll
-  over-end n over o h = rw h at o
 
 -- ---- the plan that follows
 

@@ -5,9 +5,9 @@ use mathlib.Core.Bool.{Bool, true, false, cond, not, _||_}
 use mathlib.Core.List.{List}
 use mathlib.Core.Logic.{_≢_, _⊎_, inl, inr, ⊎-elim}
 use mathlib.Core.Option.{Option, none, some}
-use mathlib.Core.Path.{_≡_, refl, sym, ap, _∙_}
+use mathlib.Core.Path.{_≡_, refl, sym, _∙_}
 use native.Mathlib.Decide.{ℕ-discrete}
-use native.Mathlib.Nat.{le-div-iff-mul-le, div-lt-iff-lt-mul, div-le-self}
+use native.Mathlib.Nat.{le-div-iff-mul-le, div-lt-iff-lt-mul}
 use native.Mathlib.Omega.{arith}
 use Prim.Native.Nat.{ℕ, zero, suc, _+_, _-_, _*_, _/_, _≤_, _<_}
 use Rattle.placement.specs.Any.{Lists}
@@ -16,6 +16,7 @@ use Rattle.slots.specs.Limits.{IDS, WHOLE}
 use Rattle.slots.specs.Shortfall.{overSlot, roomOf, weightOf}
 use Rattle.slots.specs.Slots.{isOwner}
 use Rattle.timetable.proofs.Cycle.{weight-pos}
+use Rattle.timetable.proofs.EntryLaws.{weight-le}
 use Rattle.timetable.proofs.Ranges.{InRange, period-whole}
 use Rattle.timetable.proofs.Sound.{Ranged}
 use Rattle.timetable.specs.declared.Entry.{Entry}
@@ -45,6 +46,20 @@ module _ (es : List Entry) where
       at i m (yes e) f = rw e (omega arith)
       at i m (no e) f = absurd (true-false m (f e))
 
+  -- The most urgent id stays the most urgent beside one with no less room.
+  told-kept : (n u : ℕ) → (isListed (entryOf es n) ≡ true → room (entryOf es u) ≤ room (entryOf es n)) → Told es n (some u) → Told es (suc n) (some u)
+  told-kept n u l h = record {
+    below = omega (arith, h .below);
+    listed = h .listed;
+    least = λ i k m. at i m (ℕ-discrete i n) (λ q. h .least i (omega arith) m);
+    ties = h .ties;
+  }
+    where
+      at : (i : ℕ) → isListed (entryOf es i) ≡ true → Dec (i ≡ n) → (i ≢ n → room (entryOf es u) ≤ room (entryOf es i))
+          → room (entryOf es u) ≤ room (entryOf es i)
+      at i m (yes z) f = rw z (l (rw z at m))
+      at i m (no z) f = f z
+
   told-some : (n u : ℕ) → isListed (entryOf es n) ≡ true → Told es n (some u) → Told es (suc n) (moreUrgent es n (some u))
   unfolding moreUrgent
   told-some n u l h = at (ltb (room (entryOf es n)) (room (entryOf es u))) refl
@@ -61,17 +76,7 @@ module _ (es : List Entry) where
               → room (entryOf es n) ≤ room (entryOf es i)
           less i m (yes z) f = rw z (omega arith)
           less i m (no z) f = omega (arith, ltb-true (room (entryOf es n)) (room (entryOf es u)) e, f z)
-      at false e = record {
-        below = omega (arith, h .below);
-        listed = h .listed;
-        least = λ i k m. more i m (ℕ-discrete i n) (λ q. h .least i (omega arith) m);
-        ties = h .ties;
-      }
-        where
-          more : (i : ℕ) → isListed (entryOf es i) ≡ true → Dec (i ≡ n) → (i ≢ n → room (entryOf es u) ≤ room (entryOf es i))
-              → room (entryOf es u) ≤ room (entryOf es i)
-          more i m (yes z) f = rw z (ltb-false (room (entryOf es n)) (room (entryOf es u)) e)
-          more i m (no z) f = f z
+      at false e = told-kept n u (λ _. ltb-false (room (entryOf es n)) (room (entryOf es u)) e) h
 
   -- The most urgent id below n, or that none below n is listed.
   pub told : (n : ℕ) → Told es n (mostUrgent es n)
@@ -88,17 +93,7 @@ module _ (es : List Entry) where
           not-here : (i : ℕ) → Dec (i ≡ n) → (i ≢ n → isListed (entryOf es i) ≡ false) → isListed (entryOf es i) ≡ false
           not-here i (yes z) f = rw z e
           not-here i (no z) f = f z
-      at false e (some u) h = record {
-        below = omega (arith, h .below);
-        listed = h .listed;
-        least = λ i k m. other i m (ℕ-discrete i n) (λ q. h .least i (omega arith) m);
-        ties = h .ties;
-      }
-        where
-          other : (i : ℕ) → isListed (entryOf es i) ≡ true → Dec (i ≡ n) → (i ≢ n → room (entryOf es u) ≤ room (entryOf es i))
-              → room (entryOf es u) ≤ room (entryOf es i)
-          other i m (yes z) f = absurd (true-false m (ap (λ (x : ℕ). isListed (entryOf es x)) z ∙ e))
-          other i m (no z) f = f z
+      at false e (some u) h = told-kept n u (λ l. absurd (true-false l e)) h
 
 -- ---- room, in terms of the bound
 
@@ -124,7 +119,7 @@ module _ (e : Entry) (r : InRange e) where
   -- Its own slot keeps the bound.
   pub own-bears : e .shortfall + weight e - WHOLE < WHOLE * e .bound
   unfolding weightOf
-  own-bears = omega (arith, r .kept, r .bound-low, div-le-self WHOLE (e .period))
+  own-bears = omega (arith, r .kept, r .bound-low, weight-le (e .period))
 
 -- ---- the missed slot
 

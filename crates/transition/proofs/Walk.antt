@@ -17,7 +17,7 @@ use Rattle.transition.proofs.Plans.{Fit, Step, Longer, longer-told, ove
 use Rattle.transition.proofs.Reach.{onward, reach-last, reach-fit}
 use Rattle.transition.specs.declared.Plan.{Plan}
 use Rattle.transition.specs.Reach.{reachFrom, reach}
-use Rattle.transition.specs.Transition.{longer}
+use Rattle.transition.specs.Transition.{longer, overEntry}
 
 -- Owners that agree below n give the same walk of n slots.
 pub walk-agree : (a b : List ℕ) (i w s n : ℕ) → ((m : ℕ) → m < n → getD a m 0 ≡ getD b m 0)
@@ -87,7 +87,7 @@ module _ (plan : Plan) (f : Fit 0 plan) where
           let p = w .0 in
           let g = reach-fit n 0 plan p f (omega arith) (w .1) in
           let u : ℕ = w .2 .u in
-          let here : entryOf (q .entries) i ≡ withShortfall (overSlot (eqb i u) (weight (entryOf (p .entries) i)) (entryOf (p .entries) i .shortfall)) (entryOf (p .entries) i) =
+          let here : entryOf (q .entries) i ≡ overEntry (eqb i u) (entryOf (p .entries) i) =
           ap (λ (x : Plan). entryOf (x .entries) i) (w .2 .is) ∙ over-at (p .entries) u (g .entries) i k in
           let own : u ≡ getD (q .owners) n 0 =
           sym (ap (λ (x : Plan). getD (x .owners) n 0) (w .2 .is) ∙ getD-set-same (p .owners) n u 0 (omega (arith, g .places))) in
@@ -95,5 +95,5 @@ module _ (plan : Plan) (f : Fit 0 plan) where
           walk-agree (p .owners) (q .owners) i (weight s) (s .shortfall) n
           (λ m j. sym (owners-stay n 1 p q (w .1) (ap (reach plan) (add-one n) ∙ e) m j)) in
           here
-          ∙ ap (λ (x : Entry). withShortfall (overSlot (eqb i u) (weight x) (x .shortfall)) x) (ih p (w .1))
+          ∙ ap (overEntry (eqb i u)) (ih p (w .1))
           ∙ ap₂ (λ (o x : ℕ). withShortfall (overSlot (eqb i o) (weight s) x) s) own less

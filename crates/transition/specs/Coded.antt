@@ -1,7 +1,6 @@
 -- The code's answers of the transition, in the definitions' words.
 use lib.Dec.{ltb}
 use mathlib.Core.Bool.{Bool, true, false, not, _||_}
-use mathlib.Core.List.{List}
 use mathlib.Core.Option.{Option, none, some}
 use mathlib.Core.Path.{_≡_}
 use Prim.Native.Nat.{ℕ, _+_, _<_}
@@ -15,10 +14,10 @@ use Rattle.transition.specs.declared.Searched.{Searched}
 use Rattle.transition.specs.declared.Urgent.{Urgent}
 use Rattle.transition.specs.declared.Urgent.the-variants.{Id, Nobody}
 
--- The most urgent id with its room, or nobody.
-unfoldable pub urgentOf : List Entry → Option ℕ → Urgent
-urgentOf es none = Nobody
-urgentOf es (some u) = Id u (room (entryOf es u))
+-- The most urgent id, or nobody.
+unfoldable pub urgentOf : Option ℕ → Urgent
+urgentOf none = Nobody
+urgentOf (some u) = Id u
 
 -- An entry gets the slot, is not listed, or has room for it to go elsewhere.
 unfoldable pub bearsOne : Entry → Bool → Bool

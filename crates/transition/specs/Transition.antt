@@ -30,9 +30,13 @@ mostUrgent es (suc n) = elim (isListed (entryOf es n)) [ true ↦ moreUrgent es 
 unfoldable pub isMissed : List Entry → ℕ → Bool
 isMissed es u = not (every IDS (λ i. eqb i u || not (isListed (entryOf es i)) || ltb 0 (room (entryOf es i))))
 
+-- An entry over one slot, its own or not.
+abbrev pub overEntry : Bool → Entry → Entry
+overEntry own e = withShortfall (overSlot own (weight e) (e .shortfall)) e
+
 -- The entries over one slot that goes to u.
 unfoldable pub overAll : List Entry → ℕ → List Entry
-overAll es u = each (λ i e. withShortfall (overSlot (eqb i u) (weight e) (e .shortfall)) e) IDS es
+overAll es u = each (λ i e. overEntry (eqb i u) e) IDS es
 
 -- One more transition slot, number n, to the most urgent; none where it is missed. (With nothing listed there is nobody to serve.)
 unfoldable pub longer : ℕ → Plan → Option Plan

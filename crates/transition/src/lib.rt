@@ -28,9 +28,9 @@ pub struct Searched {
     pub plan: Plan,
 }
 
-// The most urgent listed id with its room, or that nobody is listed.
+// The most urgent listed id, or that nobody is listed.
 pub enum Urgent {
-    Id(usize, u16),
+    Id(usize),
     Nobody,
 }
 

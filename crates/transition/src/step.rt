@@ -1,18 +1,18 @@
 // One more transition slot: to the listed id with the least room, ties to the lower id. Nothing here is refused: a slot that is missed is answered as not given.
 ghost use mathlib.Core.Bool.{true};
 ghost use mathlib.Core.Path.{_≡_};
-ghost use Prim.Native.Nat.{_-_, _*_, _<_};
+ghost use Prim.Native.Nat.{_*_, _<_};
 ghost use Rattle.slots.specs.Limits.{IDS, LONGEST, WHOLE, LARGEST-BOUND};
-ghost use Rattle.slots.specs.Shortfall.{overSlot};
 ghost use Rattle.timetable.specs.Sound.{entryInRange, entriesInRange};
-ghost use Rattle.timetable.specs.Timetable.{isListed, weight, withShortfall};
+ghost use Rattle.timetable.specs.Timetable.{isListed};
 ghost use Rattle.transition.specs.Coded.{urgentOf, bearsOne, nextOf};
-ghost use Rattle.transition.specs.Transition.{mostUrgent, isMissed, overAll, longer};
+ghost use Rattle.transition.specs.Transition.{mostUrgent, isMissed, overEntry, overAll, longer};
 use crate::Next;
 use crate::Plan;
 use crate::Urgent;
 use timetable::Entry;
 use timetable::Timetable;
+use timetable::after_own;
 
 // The plan with transition slot n given to the most urgent, or unchanged where it is missed.
 pub fn longer(plan: Plan, n: u8) -> Next
@@ -20,7 +20,7 @@ pub fn longer(plan: Plan, n: u8) -> Next
     ensures { λ r. ⌜ r ≡ nextOf plan (longer n plan) ⌝ }
 {
     let entries = plan.entries;
-    let Urgent::Id(u, _) = most_urgent(entries) else {
+    let Urgent::Id(u) = most_urgent(entries) else {
         return Next { given: false, plan };
     };
     if is_missed(entries, u) {
@@ -42,7 +42,7 @@ pub fn longer(plan: Plan, n: u8) -> Next
 // The listed id with the least room, ties to the lower id. No room is as large as that of nobody.
 fn most_urgent(entries: [Entry; Timetable::IDS]) -> Urgent
     requires { ⌜ entriesInRange entries ≡ true ⌝ }
-    ensures { λ r. ⌜ r ≡ urgentOf entries (mostUrgent entries IDS) ⌝ }
+    ensures { λ r. ⌜ r ≡ urgentOf (mostUrgent entries IDS) ⌝ }
 {
     let mut urgent = Timetable::IDS;
     let mut least = u16::MAX;
@@ -61,7 +61,7 @@ fn most_urgent(entries: [Entry; Timetable::IDS]) -> Urgent
     if urgent == Timetable::IDS {
         return Urgent::Nobody;
     }
-    Urgent::Id(urgent, least)
+    Urgent::Id(urgent)
 }
 
 // Whether another listed id than u has no room.
@@ -112,23 +112,13 @@ fn over_all(entries: [Entry; Timetable::IDS], u: usize) -> [Entry; Timetable::ID
 // An entry over one slot, its own or not.
 fn over_slot(e: Entry, own: bool) -> Entry
     requires { ⌜ e .shortfall < WHOLE * LARGEST-BOUND ⌝ }
-    ensures { λ r. ⌜ r ≡ withShortfall (overSlot own (weight e) (e .shortfall)) e ⌝ }
+    ensures { λ r. ⌜ r ≡ overEntry own e ⌝ }
 {
     let owed = e.shortfall + e.weight();
     let mut over = e;
     over.shortfall = owed;
     if own {
-        over.shortfall = paid(owed);
+        over.shortfall = after_own(owed, 0);
     }
     over
-}
-
-// What is owed after an own slot: surplus is not kept.
-fn paid(owed: u16) -> u16
-    ensures { λ r. ⌜ r ≡ owed - WHOLE ⌝ }
-{
-    if owed < Timetable::WHOLE {
-        return 0;
-    }
-    owed - Timetable::WHOLE
 }

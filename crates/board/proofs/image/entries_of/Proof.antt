@@ -1,10 +1,13 @@
 -- The invariant: the entries of the ids below `id` are those of the image. Assumes nothing.
-use mathlib.Core.Path.{_≡_, refl}
+use borrow.Author.Needs.{needs}
+use lib.ListN.{replicate}
+use mathlib.Core.Path.{_≡_, ap}
 use native.Mathlib.Omega.{arith}
 use Prim.Native.Nat.{_-_, _≤_}
-use Rattle.board.proofs.HeldLaws.{entries-held}
 use Rattle.board.specs.Image.{entriesAt}
 use Rattle.slots.specs.Limits.{IDS}
+use Rattle.timetable.proofs.Entries.{each-all, each-next}
+use Rattle.timetable.specs.Timetable.{each}
 use Rattle.board.proofs.image.entries_of.Statement.{statement}
 use Rattle.board.proofs.image.entries_of.Tie as tie
 
@@ -14,9 +17,12 @@ Inv-loop image entries₀ id₀ entries id = (id ≤ IDS) × (entries ≡ entrie
 abbrev μ-loop : tie.MeasureT-loop
 μ-loop image entries₀ id₀ entries id = IDS - id
 
+none-requires : tie.Need-none-requires Inv-loop μ-loop
+none-requires c κs = search needs
+
 loop-holds : tie.Need-loop-holds Inv-loop μ-loop
-unfolding entriesAt
-loop-holds c = (omega arith, refl)
+unfolding each
+loop-holds c = (omega arith, ap (replicate IDS) (c .none .ensures))
 
 mul-entry-of : tie.Need-mul-entry-of Inv-loop μ-loop
 mul-entry-of c = omega arith
@@ -42,13 +48,10 @@ loop-less c = omega arith
 loop-again : tie.Need-loop-again Inv-loop μ-loop
 loop-again c =
     let l = c .before .before .loop in
-    let a = c .before .before .before .before .args in
-    (omega arith, entries-held (a .image .now) (l .entries) (l .id) (c .entry-of .result) (l .inv .1) (c .entry-of .ensures))
+    (omega arith, each-next _ _ (l .id) (l .entries) (c .entry-of .result) (l .inv .1) (c .entry-of .ensures))
 
 returns : tie.Need-returns Inv-loop μ-loop
-returns c =
-    let n : c .before .loop .id ≡ IDS = omega arith in
-    rw n at (c .before .loop .inv .1)
+returns c = let l = c .before .loop in each-all _ _ (l .id) IDS (l .entries) (c .loop-test .left) (l .inv .0) (l .inv .1)
 
 pub entries-of-spec : {M : Type 1} → statement M
 entries-of-spec =
@@ -56,6 +59,7 @@ entries-of-spec =
     (tie.spec
     Inv-loop
     μ-loop
+    none-requires
     loop-holds
     mul-entry-of
     add-entry-of

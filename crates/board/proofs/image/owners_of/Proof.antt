@@ -7,10 +7,11 @@ use Prim.Native.Nat.{_-_, _≤_}
 use Rattle.board.proofs.HeldLaws.{owners-all, owners-next}
 use Rattle.board.proofs.image.owners_of.Statement.{statement}
 use Rattle.board.proofs.image.owners_of.Tie as tie
+use Rattle.board.specs.Image.{OWNERS-AT}
 use Rattle.slots.specs.Limits.{LONGEST}
 
 abbrev Inv-loop : tie.InvT-loop
-Inv-loop image owners₀ n₀ owners n = (n ≤ LONGEST) × (owners ≡ sets (replicate LONGEST 0) 0 (take n (drop 9 image)))
+Inv-loop image owners₀ n₀ owners n = (n ≤ LONGEST) × (owners ≡ sets (replicate LONGEST 0) 0 (take n (drop OWNERS-AT image)))
 
 abbrev μ-loop : tie.MeasureT-loop
 μ-loop image owners₀ n₀ owners n = LONGEST - n

@@ -1,17 +1,17 @@
--- The invariant: the entries of the ids below `id` are stored from byte 81 on. Assumes nothing.
+-- The invariant: the entries of the ids below `id` are stored one behind the other. Assumes nothing.
 use lib.ListN.{length}
 use lib.Seq.{sets}
 use mathlib.Core.Path.{_≡_, refl, _∙_}
 use native.Mathlib.Omega.{arith}
 use Prim.Native.Nat.{_-_, _≤_}
 use Rattle.board.proofs.StoreLaws.{entries-next}
-use Rattle.board.specs.Image.{entriesBytes}
+use Rattle.board.specs.Image.{ENTRIES-AT, entriesBytes}
 use Rattle.slots.specs.Limits.{IDS}
 use Rattle.board.proofs.image.put_entries.Statement.{statement}
 use Rattle.board.proofs.image.put_entries.Tie as tie
 
 abbrev Inv-loop : tie.InvT-loop
-Inv-loop image₀ entries id₀ image id = (id ≤ IDS) × (length image ≡ length image₀) × (image ≡ sets image₀ 81 (entriesBytes entries id))
+Inv-loop image₀ entries id₀ image id = (id ≤ IDS) × (length image ≡ length image₀) × (image ≡ sets image₀ ENTRIES-AT (entriesBytes entries id))
 
 abbrev μ-loop : tie.MeasureT-loop
 μ-loop image₀ entries id₀ image id = IDS - id

@@ -5,10 +5,11 @@ use mathlib.Core.List.{List}
 use mathlib.Core.Path.{_≡_, refl, ap}
 use native.Mathlib.Omega.{arith}
 use Prim.Native.Nat.{_-_, _≤_}
-use Rattle.change.proofs.StageSteps.{listed-in-range, entered, entered-all}
+use Rattle.change.proofs.StageSteps.{listed-in-range, entered}
 use Rattle.change.specs.Change.{startPlan}
+use Rattle.change.specs.Stages.{startEntries}
 use Rattle.slots.specs.Limits.{IDS, LONGEST}
-use Rattle.timetable.proofs.Entries.{each-next}
+use Rattle.timetable.proofs.Entries.{each-all, each-next}
 use Rattle.timetable.specs.declared.Entry.{Entry}
 use Rattle.timetable.specs.Timetable.{each}
 use Rattle.transition.specs.declared.Plan.{Plan}
@@ -69,12 +70,12 @@ loop-again c =
     (omega (arith, i .loop-test .taken), each-next _ _ (l .id) (l .entries) (c .enter .result) (l .inv .1) (c .enter .ensures))
 
 returns : tie.Need-returns Inv-loop μ-loop
-unfolding startPlan
+unfolding startPlan startEntries
 returns c =
     let l = c .before .loop in
     let a = c .before .before .before .args in
     ap {B = Plan} (λ (es : List Entry). record { owners = replicate LONGEST 0; entries = es })
-    (entered-all (a .t1) (a .t2 .slot) (a .t2 .asks) (l .entries) (l .id) (c .loop-test .left) (l .inv .0) (l .inv .1))
+    (each-all _ _ (l .id) IDS (l .entries) (c .loop-test .left) (l .inv .0) (l .inv .1))
 
 pub start-plan-spec : {M : Type 1} → statement M
 start-plan-spec =

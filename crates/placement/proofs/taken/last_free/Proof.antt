@@ -9,6 +9,7 @@ use Rattle.placement.proofs.taken.last_free.Statement.{statement}
 use Rattle.placement.proofs.taken.last_free.Tie as tie
 use Rattle.placement.specs.declared.taken.Free.the-variants.{Nowhere}
 use Rattle.placement.specs.Placed.{lastClear}
+use Rattle.timetable.specs.Marks.{isMarked}
 
 abbrev Inv-loop : tie.InvT-loop
 Inv-loop taken last n₀ n = (n ≤ last + 1) × Passed taken last (last + 1 - n)
@@ -23,6 +24,7 @@ element-copy-out-if1 : tie.Need-element-copy-out-if1 Inv-loop μ-loop
 element-copy-out-if1 c = search needs
 
 returns : tie.Need-returns Inv-loop μ-loop
+unfolding isMarked
 returns c =
     let a = c .before .before .before .before .args in
     let l = c .before .before .before .loop in (
@@ -37,6 +39,7 @@ loop-less : tie.Need-loop-less Inv-loop μ-loop
 loop-less c = search needs
 
 loop-again : tie.Need-loop-again Inv-loop μ-loop
+unfolding isMarked
 loop-again c =
     let a = c .before .before .before .before .args in
     let l = c .before .before .before .loop in

@@ -6,6 +6,7 @@ use Rattle.placement.proofs.taken.mark.Statement.{statement}
 use Rattle.placement.proofs.taken.mark.Tie as tie
 use Rattle.slots.specs.Limits.{WHOLE}
 use Rattle.timetable.proofs.Marks.{Marked, marked-none, marked-more}
+use Rattle.timetable.specs.Marks.{withMark}
 
 abbrev Inv-loop : tie.InvT-loop
 Inv-loop taken₀ period offset slot₀ taken slot = Marked taken₀ period offset taken slot
@@ -26,6 +27,7 @@ loop-less : tie.Need-loop-less Inv-loop μ-loop
 loop-less c = search needs
 
 loop-again : tie.Need-loop-again Inv-loop μ-loop
+unfolding withMark
 loop-again c =
     let s = c .before .before in
     let l = c .before .loop in

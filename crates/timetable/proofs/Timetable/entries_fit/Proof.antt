@@ -1,18 +1,18 @@
 -- `entries_fit` meets its contract: the loop's invariant is that each id below `id` is well formed and shares no slot with a lower one, and that the table
 -- says which slots they have. Assumes nothing.
 use borrow.Author.Needs.{needs}
-use lib.ListN.{length, length-replicate}
-use mathlib.Core.Bool.{Bool, true, false}
-use mathlib.Core.List.{List}
+use mathlib.Core.Bool.{Bool, true}
 use mathlib.Core.Path.{_≡_, refl, sym, _∙_}
 use native.Mathlib.Omega.{arith}
 use Prim.Native.Nat.{_-_, _≤_}
 use Rattle.slots.specs.Below.{every}
-use Rattle.slots.specs.Limits.{IDS, WHOLE}
+use Rattle.slots.specs.Limits.{IDS}
+use Rattle.timetable.proofs.Marks.{none-size}
 use Rattle.timetable.proofs.ScanLaws.{scan-stops, scan-goes, scan-ends, passed}
 use Rattle.timetable.proofs.SoundLaws.{entryTest, formed-listed, first-fails, second-fails, both-pass}
 use Rattle.timetable.proofs.TakenLaws.{Says, idTest, free-apart, says-more, says-none}
 use Rattle.timetable.specs.declared.Entry.{Entry}
+use Rattle.timetable.specs.Marks.{Marks, OfCycle, noMarks}
 use Rattle.timetable.specs.Sound.{entriesInRange, noneShared}
 use Rattle.timetable.specs.Taken.{Takes}
 use Rattle.timetable.specs.Timetable.{entryOf}
@@ -20,13 +20,13 @@ use Rattle.timetable.proofs.Timetable.entries_fit.Statement.{statement}
 use Rattle.timetable.proofs.Timetable.entries_fit.Tie as tie
 
 -- The slots that were taken, once the answer is known.
-took : {before : List Bool} {e : Entry} {answer : Bool} {after : List Bool} → Takes before e answer after → answer ≡ true → Takes before e true after
+took : {before : Marks} {e : Entry} {answer : Bool} {after : Marks} → Takes before e answer after → answer ≡ true → Takes before e true after
 took t h = record { free = sym h ∙ t .free; size = t .size; slot = λ a. t .slot h }
 
 abbrev Inv-loop : tie.InvT-loop
 Inv-loop self taken₀ id₀ taken id =
     (id ≤ IDS)
-    × (length taken ≡ WHOLE)
+    × OfCycle taken
     × Says (self .entries) taken id
     × (every id (entryTest (self .entries)) ≡ true)
     × (every id (idTest (self .entries)) ≡ true)
@@ -35,8 +35,8 @@ abbrev μ-loop : tie.MeasureT-loop
 μ-loop self taken₀ id₀ taken id = IDS - id
 
 loop-holds : tie.Need-loop-holds Inv-loop μ-loop
-unfolding every
-loop-holds c = (omega arith, length-replicate WHOLE false, says-none (c .args .t1 .entries), refl, refl)
+unfolding every noMarks
+loop-holds c = (omega arith, none-size, says-none (c .args .t1 .entries), refl, refl)
 
 mul-e : tie.Need-mul-e Inv-loop μ-loop
 mul-e c = omega arith
@@ -89,7 +89,7 @@ loop-again c =
     let t = k .take-slots .ensures in
     let own = t .free ∙ free-apart es (l .loop .taken) (l .loop .id) (l .loop .inv .2) in (
       omega (arith, i .loop-test .taken),
-      t .size ∙ l .loop .inv .1,
+      t .size (l .loop .inv .1),
       says-more es (l .loop .taken) _ (l .loop .id) (l .loop .inv .2) (took t (passed _ _ refl (c .if2 .left))),
       scan-goes (entryTest es) (l .loop .id) _ (l .loop .inv .3) (w .is-well-formed .ensures) (k .before .before .if1 .left),
       scan-goes (idTest es) (l .loop .id) _ (l .loop .inv .4) own (c .if2 .left),

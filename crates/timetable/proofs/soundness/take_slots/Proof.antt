@@ -6,6 +6,7 @@ use Rattle.slots.specs.Limits.{WHOLE}
 use Rattle.timetable.proofs.EntryLaws.{listed}
 use Rattle.timetable.proofs.Ranges.{in-range-from}
 use Rattle.timetable.proofs.TakenLaws.{Taking, takes-none, taking-none, taking-more, taking-stops, taking-all}
+use Rattle.timetable.specs.Marks.{isMarked, withMark}
 use Rattle.timetable.proofs.soundness.take_slots.Statement.{statement}
 use Rattle.timetable.proofs.soundness.take_slots.Tie as tie
 
@@ -40,6 +41,7 @@ element-copy-out-if2 : tie.Need-element-copy-out-if2 Inv-loop μ-loop
 element-copy-out-if2 c = c .loop-test .taken
 
 returns-2 : tie.Need-returns-2 Inv-loop μ-loop
+unfolding isMarked
 returns-2 c =
     let l = c .before .before .before in
     let k = l .before .before .before in
@@ -56,6 +58,7 @@ loop-less : tie.Need-loop-less Inv-loop μ-loop
 loop-less c = omega (arith, inside (c .before .before .before .before .before .before), c .before .before .loop-test .taken)
 
 loop-again : tie.Need-loop-again Inv-loop μ-loop
+unfolding isMarked withMark
 loop-again c =
     let l = c .before .before .before in
     let k = l .before .before .before in

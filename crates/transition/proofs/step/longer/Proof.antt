@@ -13,7 +13,7 @@ use Rattle.transition.proofs.step.longer.Tie as tie
 urgent : (c : tie.After-u) → mostUrgent (c .before .before .before .before .args .plan .entries) IDS ≡ some (c .u .given .0 .0)
 urgent c =
     let m = c .before .before in
-    urgent-id _ _ _ _ (sym (m .most-urgent .ensures) ∙ c .u .given .1)
+    urgent-id _ _ (sym (m .most-urgent .ensures) ∙ c .u .given .1)
 
 most-urgent-requires : tie.Need-most-urgent-requires
 most-urgent-requires c κs = c .before .pre .0
@@ -28,7 +28,7 @@ returns : tie.Need-returns
 returns c =
     let m = c .before .before in
     let a = m .before .before .args in
-    next-nobody (a .n) (a .plan) (urgent-nobody _ _ (sym (m .most-urgent .ensures) ∙ c .enum-told .given .1))
+    next-nobody (a .n) (a .plan) (urgent-nobody _ (sym (m .most-urgent .ensures) ∙ c .enum-told .given .1))
 
 is-missed-requires : tie.Need-is-missed-requires
 is-missed-requires c κs = search needs

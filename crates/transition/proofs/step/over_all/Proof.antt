@@ -1,16 +1,19 @@
 -- `over_all` meets its contract: the loop's invariant is that the entries below `id` are over the slot and the others as they were. Assumes nothing.
 use borrow.Author.Needs.{needs}
+use lib.Dec.{eqb}
 use mathlib.Core.Path.{_≡_, refl}
 use native.Mathlib.Omega.{arith}
 use Prim.Native.Nat.{_-_, _≤_}
 use Rattle.slots.specs.Limits.{IDS}
+use Rattle.timetable.proofs.Entries.{each-all, each-next}
 use Rattle.timetable.specs.Timetable.{each}
-use Rattle.transition.proofs.StepLaws.{owes-less, overBelow, over-more, over-end}
+use Rattle.transition.proofs.StepLaws.{owes-less}
+use Rattle.transition.specs.Transition.{overAll, overEntry}
 use Rattle.transition.proofs.step.over_all.Statement.{statement}
 use Rattle.transition.proofs.step.over_all.Tie as tie
 
 abbrev Inv-loop : tie.InvT-loop
-Inv-loop u entries over₀ id₀ over id = (id ≤ IDS) × (over ≡ overBelow entries u id)
+Inv-loop u entries over₀ id₀ over id = (id ≤ IDS) × (over ≡ each (λ i e. overEntry (eqb i u) e) id entries)
 
 abbrev μ-loop : tie.MeasureT-loop
 μ-loop u entries over₀ id₀ over id = IDS - id
@@ -47,13 +50,11 @@ loop-again : tie.Need-loop-again Inv-loop μ-loop
 loop-again c =
     let l = c .before .before .before .loop in
     let a = c .before .before .before .before .args in
-    (omega arith, over-more (a .t1) (a .u) (l .id) (l .over) (c .over-slot .result) (l .inv .1) (c .over-slot .ensures))
+    (omega arith, each-next _ (a .t1) (l .id) (l .over) (c .over-slot .result) (l .inv .1) (c .over-slot .ensures))
 
 returns : tie.Need-returns Inv-loop μ-loop
-returns c =
-    let l = c .before .loop in
-    let a = c .before .before .args in
-    over-end (a .t1) (a .u) (l .id) (l .over) (l .inv .1) (omega arith)
+unfolding overAll
+returns c = let l = c .before .loop in each-all _ (c .before .before .args .t1) (l .id) IDS (l .over) (c .loop-test .left) (l .inv .0) (l .inv .1)
 
 pub over-all-spec : {M : Type 1} → statement M
 over-all-spec =
