@@ -47,7 +47,7 @@ struct Arguments {
 
 /// Compares, then measures and prints all.
 fn main() -> Result<(), Box<dyn Error>> {
-    let arguments = arguments().ok_or("bench SEED FRAMES CHANGER PORT")?;
+    let arguments = arguments().ok_or("usage: bench SEED FRAMES CHANGER PORT")?;
     let inputs = all_inputs(arguments.seed);
     let asked = rows::asked(arguments.seed, &inputs);
     verify_worst(&inputs)?;
@@ -67,12 +67,11 @@ fn main() -> Result<(), Box<dyn Error>> {
     Ok(())
 }
 
-/// The command line's four words.
+/// The command line's four words, no more and no fewer.
 fn arguments() -> Option<Arguments> {
-    let mut words = std::env::args().skip(1);
-    let seed = words.next()?.parse().ok()?;
-    let (frames, changer, port) = (words.next()?, words.next()?, words.next()?);
-    Some(Arguments { seed, frames, changer, port })
+    let words: Vec<String> = std::env::args().skip(1).collect();
+    let [seed, frames, changer, port] = <[String; 4]>::try_from(words).ok()?;
+    Some(Arguments { seed: seed.parse().ok()?, frames, changer, port })
 }
 
 /// The inputs of a seed.

@@ -5,7 +5,7 @@ use std::io;
 use std::process::{Command, Stdio};
 use std::time::Instant;
 
-use crate::timing::Times;
+use crate::timing::{in_turn, Times};
 
 /// What a program prints for a file of frames.
 pub fn lines(program: &str, frames: &str) -> io::Result<Vec<u8>> {
@@ -34,8 +34,8 @@ fn run(program: &str, frames: &str) -> io::Result<f64> {
 pub fn times(changer: &str, port: &str, frames: &str, rounds: usize) -> io::Result<Times> {
     let mut times = Times { library: Vec::new(), port: Vec::new() };
     for round in 0..=rounds {
-        let a = run(changer, frames)?;
-        let b = run(port, frames)?;
+        let (a, b) = in_turn(round, || run(changer, frames), || run(port, frames));
+        let (a, b) = (a?, b?);
         if round > 0 {
             times.library.push(a);
             times.port.push(b);

@@ -24,7 +24,18 @@ fn batch<I>(count: u32, input: &I, call: &mut impl FnMut(&I)) -> f64 {
     start.elapsed().as_nanos() as f64 / f64::from(count)
 }
 
-/// The times of both sides on each input. Which side comes first changes from round to round.
+/// Both sides' times in one round. Which side comes first changes from round to round.
+pub fn in_turn<T>(round: usize, library: impl FnOnce() -> T, port: impl FnOnce() -> T) -> (T, T) {
+    if round % 2 == 0 {
+        let a = library();
+        (a, port())
+    } else {
+        let b = port();
+        (library(), b)
+    }
+}
+
+/// The times of both sides on each input.
 pub fn each<I>(
     inputs: &[I],
     effort: Effort,
@@ -34,13 +45,11 @@ pub fn each<I>(
     let mut best = vec![(f64::MAX, f64::MAX); inputs.len()];
     for round in 0..=effort.rounds {
         for (input, best) in inputs.iter().zip(&mut best) {
-            let (a, b) = if round % 2 == 0 {
-                let a = batch(effort.batch, input, &mut library);
-                (a, batch(effort.batch, input, &mut port))
-            } else {
-                let b = batch(effort.batch, input, &mut port);
-                (batch(effort.batch, input, &mut library), b)
-            };
+            let (a, b) = in_turn(
+                round,
+                || batch(effort.batch, input, &mut library),
+                || batch(effort.batch, input, &mut port),
+            );
             if round > 0 {
                 *best = (best.0.min(a), best.1.min(b));
             }
@@ -59,8 +68,7 @@ pub fn passes<I>(
 ) -> Times {
     let mut times = Times { library: Vec::new(), port: Vec::new() };
     for round in 0..=rounds {
-        let a = pass(inputs, &mut library);
-        let b = pass(inputs, &mut port);
+        let (a, b) = in_turn(round, || pass(inputs, &mut library), || pass(inputs, &mut port));
         if round > 0 {
             times.library.push(a);
             times.port.push(b);

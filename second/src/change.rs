@@ -96,12 +96,11 @@ fn within_core(listing: &Listing) -> Result<(), Refusal> {
 /// Rule 1: the shortfalls at the request slot; a newly listed partition starts at 0.
 fn shortfalls_at(timetable: &Timetable, request: &Request) -> Shortfalls {
     let mut shortfalls = [0; IDS];
-    if let Some(mut walk) = Walk::from_base(timetable) {
-        walk.pass(request.slot.saturating_sub(timetable.base));
-        for (id, _) in listed(&request.listing) {
-            if timetable.entries[id].listed() {
-                shortfalls[id] = walk.shortfalls[id];
-            }
+    let mut walk = Walk::from_base(timetable);
+    walk.pass(request.slot.saturating_sub(timetable.base));
+    for (id, _) in listed(&request.listing) {
+        if timetable.entries[id].listed() {
+            shortfalls[id] = walk.shortfalls[id];
         }
     }
     shortfalls

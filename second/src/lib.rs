@@ -1,5 +1,6 @@
-//! An independent model of the timetable changer, written from document 01 by slots.
-//! It shares no code, no closed form and no shortcut with the library it is compared with.
+//! An independent model of the timetable changer, written from document 01 by slots. It shares no
+//! code with the library it is compared with. What each works out how, and what is alike in both,
+//! is in second/README.md.
 
 #![forbid(unsafe_code)]
 

@@ -33,7 +33,10 @@ fn main() -> ExitCode {
     };
     match done {
         Some(Ok(())) => ExitCode::SUCCESS,
-        Some(Err(_)) => ExitCode::FAILURE,
+        Some(Err(error)) => {
+            let _ = writeln!(io::stderr(), "second: {error}");
+            ExitCode::FAILURE
+        }
         None => {
             let _ = writeln!(io::stderr(), "{USAGE}");
             ExitCode::from(2)

@@ -113,6 +113,25 @@ fn areas_in_lines() {
     assert_eq!(area(0, &[1]), "+0");
 }
 
+/// An image of another length than 273 bytes is refused 1; image and area stay as they are.
+#[test]
+fn images_of_another_length() {
+    let change = |image: &[u8]| {
+        let request = crate::cases::request_a();
+        probe_line(&change_content(&image_field(image), &request, 300, &[5]))
+    };
+    assert_eq!(change(&[9, 0, 7]), "change 1 0 0 0 09000107 +300");
+    assert_eq!(change(&[0; 272]), "change 1 0 0 0 00ff0011 +300");
+    assert!(change(&[0; 273]).starts_with("change 0 0 1 17 "));
+    assert_eq!(change(&[0; 274]), "change 1 0 0 0 00ff0013 +300");
+    for length in [272, 274] {
+        let image = image_field(&vec![0; length]);
+        assert_eq!(probe_line(&owner_content(&image, 0)), "owner 1 0 0");
+        assert_eq!(probe_line(&standing_content(&image, 0, 0)), "standing 1 0 0 0");
+        assert!(probe_line(&empty_content(&image)).starts_with("empty 1 00ff"));
+    }
+}
+
 /// A content that ends early is read as if zeros followed; a request goes as far as the content.
 #[test]
 fn contents_cut_off() {
@@ -158,7 +177,7 @@ fn bad_frames_among_probes() {
     assert_eq!(String::from_utf8_lossy(&output), "standing 10 0 0 0\nbad probe\nbad frame\n");
 }
 
-/// Any bytes are answered with one line of a known form.
+/// Any bytes are answered with one line, of the form that their first byte asks for.
 #[test]
 fn any_content_is_answered() {
     let mut random = Random::new(6);
@@ -171,8 +190,15 @@ fn any_content_is_answered() {
             *kind = random.below(6) as u8;
         }
         let line = probe_line(&content);
-        let known = ["change ", "owner ", "standing ", "empty ", "bad probe"];
-        assert!(known.iter().any(|start| line.starts_with(start)), "{line}");
+        let parts: Vec<&str> = line.split(' ').collect();
+        let form = match content.first() {
+            Some(1) => ("change", 7),
+            Some(2) => ("owner", 4),
+            Some(3) => ("standing", 5),
+            Some(4) => ("empty", 3),
+            _ => ("bad", 2),
+        };
+        assert_eq!((parts[0], parts.len()), form, "{line}");
         assert!(!line.contains('\n'));
     }
 }

@@ -2,7 +2,7 @@
 
 use crate::numbers;
 use crate::slots::{cycle_owners, Walk};
-use crate::timetable::{Timetable, CYCLE, IDLE, IDS, LAST_SLOT};
+use crate::timetable::{Timetable, CYCLE, IDS, LAST_SLOT};
 
 /// Owner query: the number, and the slot's owner or 255 for idle; it refuses 1, then 4, then 6.
 pub fn owner_query(timetable: &Timetable, slot: u64) -> (u8, u8) {
@@ -25,9 +25,8 @@ fn owner_at(timetable: &Timetable, slot: u64) -> u8 {
             return owner;
         }
     }
-    let mut from_base = slot.saturating_sub(timetable.base);
-    from_base -= from_base / CYCLE as u64 * CYCLE as u64;
-    cycle_owners(&timetable.entries).map_or(IDLE, |owners| owners[from_base as usize])
+    let in_cycle = slot.saturating_sub(timetable.base) % CYCLE as u64;
+    cycle_owners(&timetable.entries)[in_cycle as usize]
 }
 
 /// Standing query: the number, the shortfall at the slot's start and the slices had from the base
@@ -51,11 +50,7 @@ pub fn standing_query(timetable: &Timetable, id: u8, slot: u64) -> (u8, u16, u64
 
 /// A listed partition's shortfall at a slot from the base on and its slices up to there.
 fn standing_at(timetable: &Timetable, id: usize, slot: u64) -> (u16, u64) {
-    match Walk::from_base(timetable) {
-        Some(mut walk) => {
-            walk.pass(slot.saturating_sub(timetable.base));
-            (walk.shortfalls[id] as u16, walk.slices[id])
-        }
-        None => (0, 0),
-    }
+    let mut walk = Walk::from_base(timetable);
+    walk.pass(slot.saturating_sub(timetable.base));
+    (walk.shortfalls[id] as u16, walk.slices[id])
 }

@@ -36,18 +36,34 @@ pub fn own_slots(offset: u16, period: u16) -> impl Iterator<Item = usize> {
     (usize::from(offset)..CYCLE).step_by(step)
 }
 
-/// The owner of each slot of the cycle from the base; nothing if two partitions share a slot.
-pub fn cycle_owners(entries: &[Entry; IDS]) -> Option<[u8; CYCLE]> {
+/// Two partitions share a slot of the cycle from the base. The slots pass one by one, while each
+/// listed partition waits for its next own slot.
+pub fn share_a_slot(entries: &[Entry; IDS]) -> bool {
+    let listed = entries.iter().filter(|entry| entry.listed());
+    let mut waiting: Vec<(usize, usize)> =
+        listed.map(|entry| (usize::from(entry.offset), usize::from(entry.period))).collect();
+    for slot in 0..CYCLE {
+        let mut served = false;
+        for (next, period) in waiting.iter_mut().filter(|(next, _)| *next == slot) {
+            if served {
+                return true;
+            }
+            served = true;
+            *next += *period;
+        }
+    }
+    false
+}
+
+/// The owner of each slot of the cycle from the base, where no two partitions share one.
+pub fn cycle_owners(entries: &[Entry; IDS]) -> [u8; CYCLE] {
     let mut owners = [IDLE; CYCLE];
     for (id, entry) in (0u8..).zip(entries).filter(|(_, entry)| entry.listed()) {
         for slot in own_slots(u16::from(entry.offset), entry.period) {
-            if owners[slot] != IDLE {
-                return None;
-            }
             owners[slot] = id;
         }
     }
-    Some(owners)
+    owners
 }
 
 /// Every listed partition's shortfall over one slot that goes to the owner.
@@ -71,17 +87,17 @@ pub struct Walk {
 }
 
 impl Walk {
-    /// The walk starts at the base with the shortfalls there; none if two share a slot.
-    pub fn from_base(timetable: &Timetable) -> Option<Walk> {
+    /// The walk starts at the base with the shortfalls there.
+    pub fn from_base(timetable: &Timetable) -> Walk {
         let listed = timetable.listing();
         let weights = listed.iter().enumerate();
-        Some(Walk {
+        Walk {
             weights: weights.filter_map(|(id, share)| Some((id, (*share)?.weight()))).collect(),
-            owners: cycle_owners(&timetable.entries)?,
+            owners: cycle_owners(&timetable.entries),
             position: 0,
             shortfalls: timetable.entries.map(|entry| i64::from(entry.shortfall)),
             slices: [0; IDS],
-        })
+        }
     }
 
     /// One slot passes: its owner has a slice, and every shortfall moves.

@@ -1,5 +1,6 @@
 //! The bench cases with their exact bytes and numbers, every refusal and the order of the stages,
-//! the clauses of soundness, both queries, the frames, and the skip of repeated cycles.
+//! transitions worked out by hand, the clauses of soundness, both queries, the frames, and the skip
+//! of repeated cycles.
 
 use crate::cases::{self, record, request_a, request_d};
 use crate::change::{change, most_urgent, placement, Outcome, AREA};
@@ -135,7 +136,8 @@ fn case_f() {
     refused(&b, &record(6, 64, &[]), 6, 0, 0);
     refused(&b, &request_d(6, 64), 6, 0, 0);
     accepted(&b, &record(7, 64, &[]), 1);
-    assert_ne!(answered(&b, &request_d(7, 64)).0.number, 6);
+    // At the base ids 0 and 2, with shortfalls 192 and 128 and R 1, have room 0 both.
+    refused(&b, &request_d(7, 64), 9, 0, 1);
 }
 
 /// G: the shortfall of figure 7 is 448 at slot 8.
@@ -156,6 +158,9 @@ fn case_h() {
     assert_eq!([0, 128, 192].map(|shortfall| room(shortfall, quarter)), [3, 1, 0]);
     let half = Share { period: 2, bound: 2 };
     assert_eq!((room(0, half), last_offset(0, half)), (3, 1));
+    let longest = Share { period: 256, bound: 8 };
+    assert_eq!([0, 1792, 1793].map(|shortfall| room(shortfall, longest)), [2047, 255, 254]);
+    assert_eq!([0, 1792, 1793].map(|shortfall| last_offset(shortfall, longest)), [255, 255, 254]);
 }
 
 /// Room by passing slots is (256 R - 1 - shortfall) / weight, rounded down.
@@ -221,7 +226,7 @@ fn run_only_cases() {
 fn the_longest_answer_has_231_bytes() {
     let timetable = Timetable { length: 64, base: 64, ..all_listed() };
     assert!(timetable.sound());
-    assert_eq!(crate::records::write_answer(&timetable).len(), AREA);
+    assert_eq!(crate::records::write_answer(&timetable).len(), 231);
 }
 
 /// All 32 ids with period 32, each with its own offset.
@@ -368,6 +373,80 @@ fn a_shortfall_of_exactly_the_bound_is_refused() {
     accepted(&timetable, &record(0, 64, &[(7, 1, 2)]), 1);
 }
 
+/// The place of 8 is the lowest id that is behind, not the first that is listed, nor the last.
+#[test]
+fn eight_names_the_lowest_id() {
+    let mut timetable = Timetable::empty();
+    for (id, offset, shortfall) in [(3, 0, 255), (5, 1, 256), (9, 2, 600)] {
+        timetable.entries[id] = Entry { period: 4, offset, bound: 3, shortfall };
+    }
+    assert!(timetable.sound());
+    refused(&timetable, &record(0, 64, &[(3, 2, 1), (5, 2, 1), (9, 2, 1)]), 8, 5, 0);
+    refused(&timetable, &record(0, 64, &[(3, 2, 1), (5, 2, 2), (9, 2, 2)]), 8, 9, 0);
+}
+
+/// Four of period 8 wait side by side, and a newcomer takes every second slot: three are served
+/// one by one before the fourth, at room 0, and the others find slots of the other half.
+#[test]
+fn a_transition_of_three_slots() {
+    let block = [(0, 3, 1), (1, 3, 1), (2, 3, 1), (3, 3, 1)];
+    let before = accepted(&Timetable::empty(), &record(0, 0, &block), 1);
+    assert_eq!(offsets(&before, [0, 1, 2, 3]), [7, 6, 5, 4]);
+    let with_newcomer = [&block[..], &[(4, 1, 4)]].concat();
+    refused(&before, &record(4, 2, &with_newcomer), 9, 0, 3);
+    let after = accepted(&before, &record(4, 3, &with_newcomer), 4);
+    assert_eq!((after.request_slot, after.base), (4, 7));
+    assert_eq!(after.transition(), [0, 1, 2]);
+    assert_eq!(offsets(&after, [0, 1, 2, 3, 4]), [4, 6, 2, 0, 1]);
+    assert_eq!([0, 1, 2, 3, 4].map(|id| after.entries[id].shortfall), [64, 32, 0, 224, 384]);
+    assert_eq!(
+        [4, 5, 6, 7, 8].map(|slot| owner_query(&after, slot)),
+        [0, 1, 2, 3, 4].map(|id| (0, id))
+    );
+}
+
+/// Id 0 takes every second slot and others fill the core but for two slots, 128 apart. Ids 11 and
+/// 12 need theirs within 64 slots and within so many; below 128 there is only one for both.
+fn two_in_want(within: u16) -> (Timetable, Vec<(u8, u8, u8)>) {
+    let mut timetable = Timetable::empty();
+    timetable.entries[11] = Entry { period: 256, offset: 0, bound: 1, shortfall: 255 - 63 };
+    timetable.entries[12] = Entry { period: 256, offset: 1, bound: 1, shortfall: 255 - within };
+    let mut shares = vec![(0, 1, 1)];
+    shares.extend((1..8).map(|id| (id, 4, 8)));
+    shares.extend([(8, 5, 8), (9, 6, 8), (10, 7, 8), (11, 8, 1), (12, 8, 1)]);
+    (timetable, shares)
+}
+
+/// The longest transition: id 0, with room 1, is served until id 11 has room 0, in the 64th slot.
+#[test]
+fn the_longest_transition() {
+    let (timetable, shares) = two_in_want(127);
+    refused(&timetable, &record(0, 63, &shares), 9, 0, 64);
+    let after = accepted(&timetable, &record(0, 64, &shares), 65);
+    assert_eq!((after.request_slot, after.length, after.base), (0, 64, 64));
+    assert_eq!(after.transition()[..63], [0; 63]);
+    assert_eq!(after.transition()[63], 11);
+    assert_eq!(offsets(&after, [0, 1, 2, 3, 4, 5, 6, 7]), [0, 15, 13, 11, 9, 7, 5, 3]);
+    assert_eq!(offsets(&after, [8, 9, 10, 11, 12]), [17, 33, 65, 129, 1]);
+    let left = [0, 1, 7, 8, 9, 10, 11, 12].map(|id| after.entries[id].shortfall);
+    assert_eq!(left, [128, 1024, 1024, 512, 256, 128, 0, 192]);
+    // One slot more, and id 12 has slot 128 at once.
+    let (timetable, shares) = two_in_want(128);
+    assert_eq!(accepted(&timetable, &record(0, 64, &shares), 1).entries[12].offset, 128);
+}
+
+/// A transition slot takes 256 of a larger shortfall, and the rest stays.
+#[test]
+fn a_transition_slot_leaves_the_rest() {
+    let mut timetable = Timetable::empty();
+    timetable.entries[0] = Entry { period: 4, offset: 1, bound: 3, shortfall: 640 };
+    timetable.entries[1] = Entry { period: 4, offset: 0, bound: 3, shortfall: 700 };
+    let after = accepted(&timetable, &record(0, 1, &[(0, 2, 3), (1, 2, 3), (2, 1, 2)]), 2);
+    assert_eq!(after.transition(), [0]);
+    assert_eq!(offsets(&after, [0, 1, 2]), [2, 0, 1]);
+    assert_eq!([0, 1, 2].map(|id| after.entries[id].shortfall), [448, 764, 128]);
+}
+
 /// Period 2 takes offset 1, so that a period of 4 with last offset 0 finds its slot free.
 #[test]
 fn the_latest_free_offset_is_taken() {
@@ -405,7 +484,9 @@ fn the_least_room_is_served_first() {
     // The slot is missed if another has room 0 as well.
     assert_eq!(urgent(&[(4, 4, 1, 192), (9, 1, 1, 0)]), None);
     assert_eq!(urgent(&[(4, 4, 1, 191), (9, 1, 1, 0)]), Some(9));
+    assert_eq!(urgent(&[(4, 4, 1, 192), (5, 1, 1, 0)]), None);
     assert_eq!(urgent(&[(4, 256, 8, 2047), (9, 256, 8, 2046), (31, 256, 8, 2047)]), None);
+    assert_eq!(urgent(&[(4, 256, 8, 2046), (9, 256, 8, 2046), (31, 256, 8, 2047)]), Some(31));
 }
 
 /// The offsets of the placement, in the order in which the ids are given.
@@ -424,70 +505,139 @@ fn the_placement_keeps_its_order() {
     assert_eq!(placed(&[(0, 4, 1, 64), (1, 4, 1, 0), (2, 2, 1, 0)]), Some(vec![2, 0, 1]));
     // With equal last offsets the lower id comes first.
     assert_eq!(placed(&[(0, 4, 1, 0), (1, 4, 1, 0), (2, 2, 1, 0)]), Some(vec![2, 0, 1]));
-    // The shorter period comes first although its last offset is larger.
-    assert_eq!(placed(&[(5, 8, 1, 224), (6, 2, 1, 0)]), Some(vec![0, 1]));
+    assert_eq!(placed(&[(0, 4, 2, 0), (1, 4, 1, 0), (2, 4, 8, 0)]), Some(vec![3, 2, 1]));
+    // The shorter period comes first, though its last offset is 2 and that of period 8 is 1.
+    assert_eq!(placed(&[(3, 4, 1, 64), (4, 4, 1, 64), (5, 8, 1, 192)]), Some(vec![2, 1, 0]));
+    assert_eq!(placed(&[(3, 8, 1, 192), (4, 4, 1, 64), (5, 4, 1, 64)]), Some(vec![0, 2, 1]));
+    // An offset is taken up to the last offset, and none beyond it.
     assert_eq!(placed(&[(5, 8, 1, 192), (6, 2, 1, 0)]), Some(vec![0, 1]));
+    assert_eq!(placed(&[(5, 8, 1, 191), (6, 2, 1, 0)]), Some(vec![2, 1]));
+    assert_eq!(placed(&[(5, 8, 1, 224), (6, 2, 1, 128)]), None);
     // Case B's length 0 is passed over.
     assert_eq!(placed(&[(0, 4, 1, 128), (1, 4, 1, 192), (2, 2, 2, 0)]), None);
 }
 
-/// A timetable is not sound: it is refused with 1 everywhere and handed back as it is.
-fn not_sound(edit: impl Fn(&mut Timetable)) {
-    let mut timetable = after_b();
-    edit(&mut timetable);
-    assert!(!timetable.sound());
-    refused(&timetable, &record(100, 0, &[]), 1, 0, 0);
-    refused(&timetable, &[], 1, 0, 0);
-    assert_eq!(owner_query(&timetable, u64::MAX), (1, 0));
-    assert_eq!(standing_query(&timetable, 255, u64::MAX), (1, 0, 0));
+/// A timetable is sound, or it is refused with 1 everywhere and handed back as it is.
+fn soundness(timetable: &Timetable, sound: bool) {
+    assert_eq!(timetable.sound(), sound, "{timetable:?}");
+    if !sound {
+        refused(timetable, &record(100, 0, &[]), 1, 0, 0);
+        refused(timetable, &[], 1, 0, 0);
+        assert_eq!(owner_query(timetable, u64::MAX), (1, 0));
+        assert_eq!(standing_query(timetable, 255, u64::MAX), (1, 0, 0));
+    }
 }
 
-/// One timetable, or some, for each clause that it breaks.
-#[test]
-fn each_clause_of_soundness() {
-    not_sound(|t| (t.request_slot, t.base) = (LAST_SLOT + 1, LAST_SLOT + 2));
-    not_sound(|t| (t.request_slot, t.base) = (u64::MAX, 0));
-    not_sound(|t| (t.length, t.base) = (65, 6 + 65));
-    not_sound(|t| (t.length, t.base) = (255, 6 + 255));
-    not_sound(|t| t.base = 6);
-    not_sound(|t| t.base = 8);
-    not_sound(|t| t.owners[0] = 3);
-    not_sound(|t| t.owners[0] = 32);
-    not_sound(|t| t.owners[0] = IDLE);
-    not_sound(|t| t.owners[1] = 1);
-    not_sound(|t| t.owners[63] = 1);
-    not_sound(|t| t.entries[0].period = 3);
-    not_sound(|t| t.entries[0].period = 512);
-    not_sound(|t| t.entries[0].period = u16::MAX);
-    not_sound(|t| t.entries[0].period = 1 << 15);
-    not_sound(|t| t.entries[0].bound = 0);
-    not_sound(|t| t.entries[0].bound = 9);
-    not_sound(|t| t.entries[0].bound = 255);
-    not_sound(|t| (t.entries[0].offset, t.entries[0].shortfall) = (4, 0));
-    not_sound(|t| t.entries[0].offset = 255);
-    not_sound(|t| t.entries[0].shortfall = 256);
-    not_sound(|t| t.entries[0].shortfall = u16::MAX);
-    not_sound(|t| t.entries[1].shortfall = 128);
-    not_sound(|t| (t.entries[1].offset, t.entries[2].offset) = (0, 1));
-    not_sound(|t| (t.entries[0].offset, t.entries[2].offset) = (0, 0));
-    not_sound(|t| t.entries[0].period = 0);
-    not_sound(|t| t.entries[3].offset = 1);
-    not_sound(|t| t.entries[3].bound = 1);
-    not_sound(|t| t.entries[31].shortfall = 1);
+/// The timetable of slot 6 that lists some ids from 5 on: period, offset, R and shortfall of each.
+fn listing_from_5<const N: usize>(entries: [(u16, u8, u8, u16); N]) -> Timetable {
+    let mut timetable = Timetable { request_slot: 6, base: 6, ..Timetable::empty() };
+    for (id, (period, offset, bound, shortfall)) in (5..).zip(entries) {
+        timetable.entries[id] = Entry { period, offset, bound, shortfall };
+    }
+    timetable
 }
 
-/// Values at their limits are sound, and one step further they are not.
+/// An entry alone on the core, its values at their limits and one step further: no other clause
+/// is broken, but that with R 0 no shortfall is below 256 R.
 #[test]
-fn soundness_at_its_edges() {
-    let mut timetable = Timetable { request_slot: LAST_SLOT, base: LAST_SLOT, ..all_listed() };
-    assert!(timetable.sound());
-    timetable.entries[31] = Entry { period: 32, offset: 31, bound: 1, shortfall: 7 };
-    assert!(timetable.sound());
-    timetable.entries[31].shortfall = 8;
-    assert!(!timetable.sound());
-    timetable.entries[31].bound = 8;
-    timetable.entries[31].shortfall = 2048 - 31 * 8 - 1;
-    assert!(timetable.sound());
+fn soundness_of_an_entry() {
+    let alone = |period, offset, bound, shortfall, sound| {
+        soundness(&listing_from_5([(period, offset, bound, shortfall)]), sound)
+    };
+    for k in 0..16 {
+        alone(1 << k, 0, 8, 0, k <= 8);
+    }
+    for period in [3, 5, 6, 7, 96, 255, 257, 384, 511, 513, u16::MAX] {
+        alone(period, 0, 8, 0, false);
+    }
+    for (bound, sound) in [(0, false), (1, true), (8, true), (9, false), (255, false)] {
+        alone(4, 0, bound, 0, sound);
+    }
+    for (period, last) in [(1, 0), (4, 3), (128, 127)] {
+        alone(period, last, 8, 0, true);
+        alone(period, last + 1, 8, 0, false);
+    }
+    alone(256, 255, 8, 0, true);
+    // Shortfall + offset x weight is below 256 R.
+    for (period, offset, bound, most) in
+        [(4, 0, 1, 255), (4, 3, 1, 63), (256, 255, 1, 0), (1, 0, 8, 2047), (32, 31, 8, 1799)]
+    {
+        alone(period, offset, bound, most, true);
+        alone(period, offset, bound, most + 1, false);
+    }
+    alone(4, 0, 8, u16::MAX, false);
+    // An unlisted entry is all zero.
+    alone(0, 0, 0, 0, true);
+    alone(0, 1, 0, 0, false);
+    alone(0, 0, 1, 0, false);
+    alone(0, 0, 0, 1, false);
+}
+
+/// Two partitions that share a slot with equal and with different periods, and neighbours.
+#[test]
+fn soundness_of_two_entries() {
+    let two = |one: (u16, u8), other: (u16, u8), sound| {
+        soundness(&listing_from_5([(one.0, one.1, 8, 0), (other.0, other.1, 8, 0)]), sound);
+        soundness(&listing_from_5([(other.0, other.1, 8, 0), (one.0, one.1, 8, 0)]), sound);
+    };
+    two((4, 1), (4, 1), false);
+    two((4, 1), (4, 2), true);
+    two((2, 1), (4, 3), false);
+    two((2, 1), (4, 2), true);
+    two((2, 0), (256, 254), false);
+    two((2, 0), (256, 255), true);
+    two((256, 7), (256, 7), false);
+    two((256, 254), (256, 255), true);
+    two((1, 0), (256, 255), false);
+}
+
+/// The timetable that lists id 5, with these slots.
+fn slots(request_slot: u64, length: u8, base: u64) -> Timetable {
+    Timetable { request_slot, length, base, ..listing_from_5([(4, 0, 1, 0)]) }
+}
+
+/// Request slot, length and base at their limits and one step further.
+#[test]
+fn soundness_of_slots() {
+    for (slot, sound) in [(0, true), ((1 << 48) - 1, true), (1 << 48, false), (u64::MAX, false)] {
+        soundness(&slots(slot, 0, slot), sound);
+    }
+    for (base, sound) in [(5, false), (6, true), (7, false), (262, false)] {
+        soundness(&slots(6, 0, base), sound);
+    }
+    for (length, sound) in [(64, true), (65, false), (255, false)] {
+        let owners = [5; 64];
+        let base = u64::from(length) + (1 << 48) - 1;
+        soundness(&Timetable { owners, ..slots((1 << 48) - 1, length, base) }, sound);
+        soundness(&Timetable { owners, ..slots((1 << 48) - 1, length, (1 << 48) - 1) }, false);
+    }
+}
+
+/// Owners of the transition are listed ids, and the others are zero.
+#[test]
+fn soundness_of_owners() {
+    let mut timetable = listing_from_5([(4, 0, 1, 0), (4, 1, 1, 0)]);
+    (timetable.length, timetable.base) = (3, 9);
+    timetable.owners[..3].copy_from_slice(&[6, 5, 6]);
+    soundness(&timetable, true);
+    for place in [0, 1, 2] {
+        for owner in [0, 4, 7, 32, 5 + 32, IDLE] {
+            let mut edited = timetable;
+            edited.owners[place] = owner;
+            soundness(&edited, false);
+        }
+    }
+    for place in [3, 4, 63] {
+        let mut edited = timetable;
+        edited.owners[place] = 5;
+        soundness(&edited, false);
+    }
+}
+
+/// A sound timetable may end above the highest slot: every request is then too early.
+#[test]
+fn a_base_above_the_highest_slot() {
+    let mut timetable = Timetable { request_slot: LAST_SLOT, ..all_listed() };
     timetable.owners = [31; 64];
     (timetable.length, timetable.base) = (64, LAST_SLOT + 64);
     assert!(timetable.sound());
@@ -512,6 +662,11 @@ fn owner_query_answers_and_refuses() {
     let a = after_a();
     assert_eq!([0, 1, 2, 3, 4].map(|slot| owner_query(&a, slot).1), [IDLE, IDLE, 1, 0, IDLE]);
     assert_eq!(owner_query(&a, LAST_SLOT), (0, 0));
+    let longest = listing_from_5([(256, 0, 1, 0), (256, 128, 1, 0), (256, 255, 1, 0)]);
+    let owners = [5, 6, 133, 134, 135, 260, 261, 262, 263].map(|slot| owner_query(&longest, slot));
+    let wanted =
+        [(6, 0), (0, 5), (0, IDLE), (0, 6), (0, IDLE), (0, IDLE), (0, 7), (0, 5), (0, IDLE)];
+    assert_eq!(owners, wanted);
 }
 
 /// From the base on, each step of one period from the offset meets the same owner.
@@ -560,11 +715,10 @@ fn far_off_slots() {
 #[test]
 fn the_skip_agrees_with_plain_walking() {
     let mut timetable = Timetable::empty();
-    let mut checked = 0;
     for request in Generator::new(5, 600) {
         let outcome = change(&timetable, &request, &mut [0; AREA]);
         timetable = outcome.timetable;
-        let Some(mut plain) = Walk::from_base(&timetable) else { continue };
+        let mut plain = Walk::from_base(&timetable);
         let start = plain.clone();
         let mut distance = 0;
         for further in [0, 1, 255, 256, 257, 300, 511, 512, 900, 1024, 3000] {
@@ -574,10 +728,8 @@ fn the_skip_agrees_with_plain_walking() {
             skipping.pass(distance);
             assert_eq!(skipping.shortfalls, plain.shortfalls);
             assert_eq!(skipping.slices, plain.slices);
-            checked += 1;
         }
     }
-    assert_eq!(checked, 600 * 11);
 }
 
 /// The lines that the program prints for some input.
@@ -594,27 +746,6 @@ fn lines_of_a_and_b() {
     let input = [frame(&request_a()), frame(&request_b(1))].concat();
     assert_eq!(lines_of(&input), "1 0 0 1 0\n2 0 0 2 1\n");
     assert_eq!(lines_of(&[]), "");
-}
-
-/// The lines of a stream with many of the cases.
-#[test]
-fn lines_of_every_case() {
-    let input = [
-        frame(&request_a()),
-        frame(&request_b(0)),
-        frame(&request_b(1)),
-        frame(&request_d(8, 64)),
-        frame(&request_d(9, 1)),
-        frame(&request_d(9, 64)),
-        frame(&record(6, 0, &[])),
-        frame(&[]),
-        frame(&slot_field(9)),
-        frame(&record(9, 64, &[(0, 0, 1), (31, 8, 1)])),
-        frame(&record(9, 64, &[(1, 8, 1), (1, 8, 1)])),
-    ];
-    let lines = "1 0 0 1 0\n2 9 0 1 0\n3 0 0 2 1\n4 8 2 0 0\n5 9 0 2 0\n6 9 0 3 0\n\
-                 7 6 0 0 0\n8 3 0 0 0\n9 3 11 0 0\n10 7 31 0 0\n11 5 21 0 0\n";
-    assert_eq!(lines_of(&input.concat()), lines);
 }
 
 /// The lines of document 01's cases, in the stream's order.
@@ -736,12 +867,22 @@ fn the_longest_frame() {
     assert_eq!(lines_of(&input[..LONGEST_FRAME + 2]), "bad frame\n");
 }
 
+/// The random numbers are those of splitmix64, as they are published for two seeds.
+#[test]
+fn the_source_is_splitmix64() {
+    assert_eq!(crate::random::Random::new(0).bits(), 0xe220_a839_7b1d_cdaf);
+    let mut random = crate::random::Random::new(1_234_567);
+    let first = [6_457_827_717_110_365_317, 3_203_168_211_198_807_973, 9_817_491_932_198_370_423];
+    assert_eq!([(); 3].map(|()| random.bits()), first);
+}
+
 /// A seed and a count give one stream, whose requests fit into frames.
 #[test]
 fn a_seed_always_gives_the_same_stream() {
     let stream = |seed| Generator::new(seed, 200).collect::<Vec<_>>();
     assert_eq!(stream(3), stream(3));
     assert_ne!(stream(3), stream(4));
+    assert_eq!(stream(3).len(), 200);
     assert_eq!(Generator::new(3, 0).count(), 0);
     assert!(stream(3).iter().all(|request| request.len() <= LONGEST_FRAME));
 }
@@ -808,12 +949,14 @@ fn any_bytes_and_any_timetable_are_answered() {
             let at = random.below(record.len() as u64) as usize;
             record[at] = random.byte();
         }
+        let sound = sound_in_numbers(&timetable);
         let (outcome, _) = answered(&timetable, &record);
-        assert_eq!(outcome.number == 1, !timetable.sound());
+        assert_eq!(outcome.number == 1, !sound);
         assert!(outcome.number == 0 || outcome.timetable == timetable);
+        assert!(outcome.number > 0 || sound_in_numbers(&outcome.timetable));
         let slot = random.bits() >> random.below(64);
-        assert_eq!(owner_query(&timetable, slot).0 == 1, !timetable.sound());
-        assert_eq!(standing_query(&timetable, random.byte(), slot).0 == 1, !timetable.sound());
+        assert_eq!(owner_query(&timetable, slot).0 == 1, !sound);
+        assert_eq!(standing_query(&timetable, random.byte(), slot).0 == 1, !sound);
     }
 }
 
@@ -854,6 +997,8 @@ fn the_stream_reaches_every_answer() {
     }
     assert_eq!(numbers[1] + numbers[2] + numbers[10], 0);
     assert!(numbers[3..10].iter().all(|&count| count >= 40), "{numbers:?}");
+    let to_8: i32 = lengths[2..=8].iter().sum();
     let over_8: i32 = lengths[9..].iter().sum();
-    assert!(lengths[0] > 400 && lengths[1] >= 40 && over_8 >= 20, "{lengths:?}");
+    assert!(lengths[0] > 400 && lengths[1] >= 40, "{lengths:?}");
+    assert!(to_8 >= 40 && over_8 >= 20, "{lengths:?}");
 }

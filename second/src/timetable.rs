@@ -78,7 +78,7 @@ impl Timetable {
         self.numbers_sound()
             && self.owners_sound()
             && self.entries.iter().all(entry_sound)
-            && slots::cycle_owners(&self.entries).is_some()
+            && !slots::share_a_slot(&self.entries)
     }
 
     /// Request slot and length are within their limits and the base is their sum.
