@@ -63,24 +63,26 @@ use Rattle.transition.specs.Reach.{isSearched}
 -- ---- 1
 
 -- What a request gets, as far as the area and the timetable go.
-record Held (t : Timetable) (a : Answer) : Type 0 where
+record Held (t : Timetable) (area : ℕ) (a : Answer) : Type 0 where
   short : length (recordOf a) ≤ AREA
+  fits : length (recordOf a) ≤ area
   refused : a .number ≢ ACCEPTED → a .timetable ≡ t
 
-held : (t : Timetable) (s : List ℕ) (area : ℕ) → Held t (answer t s area)
+held : (t : Timetable) (s : List ℕ) (area : ℕ) → Held t area (answer t s area)
 held t s area = at (answer t s area) (gets t s area)
   where
-    nothing : (a : Answer) → a .number ≢ ACCEPTED → length (recordOf a) ≤ AREA
-    nothing a n = rw (record-none a n) (omega arith)
+    nothing : (a : Answer) → a .number ≢ ACCEPTED → a .timetable ≡ t → Held t area a
+    nothing a n e =
+        let z = ap (λ (bs : List ℕ). length bs) (record-none a n) in
+        record { short = omega (arith, z); fits = omega (arith, z); refused = λ _. e }
 
-    at : (a : Answer) → Gets t s area a → Held t a
-    at a (refused q e l h) = record { short = nothing a (λ z. omega (arith, z)); refused = λ n. refl }
-    at a (accepted e p k l b q h ps f) = record {
-      short = rw (record-accepted a refl) (answer-length k _ _ (omega (arith, p .range .limit)));
-      refused = λ n. absurd (n refl);
-    }
-    at a (no-slot e p k l b q h f) = record { short = nothing a (λ z. omega arith); refused = λ n. refl }
-    at a (no-length e p b) = record { short = nothing a (λ z. omega arith); refused = λ n. refl }
+    at : (a : Answer) → Gets t s area a → Held t area a
+    at a (refused q e l h) = nothing a (λ z. omega (arith, z)) refl
+    at a (accepted e p k l b q h ps f) =
+        let m : length (recordOf a) ≤ AREA = rw (record-accepted a refl) (answer-length k _ _ (omega (arith, p .range .limit))) in
+        record { short = m; fits = omega (arith, m, p .room); refused = λ n. absurd (n refl) }
+    at a (no-slot e p k l b q h f) = nothing a (λ z. omega arith) refl
+    at a (no-length e p b) = nothing a (λ z. omega arith) refl
 
 pub sound-stays : SoundStays
 unfolding outcome areaAfter
@@ -91,6 +93,7 @@ sound-stays = record {
       let e = record-none (answer t s (length area)) n in
       (held t s (length area) .refused n, ap (λ (bs : List ℕ). length bs) e, ap (sets area 0) e);
   short = λ t s area. held t s (length area) .short;
+  fits = λ t s area. held t s (length area) .fits;
   size = λ t s area. length-sets area 0 (recordOf (answer t s (length area)));
   rest = λ t s area n l. sets-rest area 0 n (recordOf (answer t s (length area))) (omega arith);
 }

@@ -41,14 +41,15 @@ use Rattle.timetable.specs.Sound.{entriesInRange, isSound}
 use Rattle.timetable.specs.Timetable.{emptyTimetable, entryOf, lists, serves, shortfallAt}
 use Rattle.transition.specs.Reach.{isSearched, HasPlacement, PassedOver, CannotReach}
 
--- 1. Sound stays sound; a refusal hands back the timetable as given and touches no byte of the area; an accepted record has at most 231 bytes, and
--- the bytes after it stay. (Shuts out: a change that keeps a shortfall of 256 R; a refusal that clears the area.)
+-- 1. Sound stays sound; a refusal hands back the timetable as given and touches no byte of the area; an accepted record has at most 231 bytes and
+-- fits the area, and the bytes after it stay. (Shuts out: a change that keeps a shortfall of 256 R; a refusal that clears the area.)
 pub record SoundStays : Type 0 where
   pub empty : isSound emptyTimetable ≡ true
   pub accepted : (t : Timetable) (s area : List ℕ) → outcome t s area .number ≡ ACCEPTED → isSound (outcome t s area .timetable) ≡ true
   pub refused : (t : Timetable) (s area : List ℕ) → outcome t s area .number ≢ ACCEPTED
       → (outcome t s area .timetable ≡ t) × (outcome t s area .written ≡ 0) × (areaAfter t s area ≡ area)
   pub short : (t : Timetable) (s area : List ℕ) → outcome t s area .written ≤ AREA
+  pub fits : (t : Timetable) (s area : List ℕ) → outcome t s area .written ≤ length area
   pub size : (t : Timetable) (s area : List ℕ) → length (areaAfter t s area) ≡ length area
   pub rest : (t : Timetable) (s area : List ℕ) (n : ℕ) → outcome t s area .written ≤ n → getD (areaAfter t s area) n 0 ≡ getD area n 0
 

@@ -57,10 +57,8 @@ module _ (s : List ℕ) (at floor : ℕ) where
   listed-ahead f e = subst (Ahead at) e (by (listedField s at floor) (listed-read s at floor))
     where
       by : (f : ListedField) → ListedRead s at floor f → Ahead at f
-      by f (ListedRead.wrong p q) = 0
-      by f (ListedRead.high p q) = 0
-      by f (ListedRead.low p q k) = 0
-      by f (ListedRead.value p q k) = let r = listed-range s at p q in (r .id-range, r .ahead)
+      by (listed-refused r) g = 0
+      by (listed-value l next) (ListedRead.value p q k) = let r = listed-range s at p q in (r .id-range, r .ahead)
 
   module _ (end : ℕ) (asks : List Ask) where
     -- At the end the listing is whole.
@@ -74,10 +72,8 @@ module _ (s : List ℕ) (at floor : ℕ) where
     listing-step h f e = by (listedField s at floor) (listed-read s at floor) ∙ ap (listingAfter s end asks) e
       where
         by : (f : ListedField) → ListedRead s at floor f → listingAt s end at floor asks ≡ listingAfter s end asks f
-        by f (ListedRead.wrong p q) = listing-is s end end (ListingRead.stop h (ListedRead.wrong p q)) (omega arith)
-        by f (ListedRead.high p q) = listing-is s end end (ListingRead.stop h (ListedRead.high p q)) (omega arith)
-        by f (ListedRead.low p q k) = listing-is s end end (ListingRead.stop h (ListedRead.low p q k)) (omega arith)
-        by f (ListedRead.value p q k) =
+        by (listed-refused r) g = listing-is s end end (ListingRead.stop h g) (omega arith)
+        by (listed-value l next) (ListedRead.value p q k) =
             listing-is s end end (ListingRead.more h p q k (listing-read s end end _ _ _ (omega arith))) (omega arith)
 
 module _ (slot : CoreSlot) (limit : ℕ) (listing : Listing) where

@@ -4,13 +4,14 @@ use lib.Dec.{leb, ltb}
 use lib.ListN.{getD, length}
 use mathlib.Core.Bool.{Bool, true, false}
 use mathlib.Core.List.{List}
-use mathlib.Core.Path.{_≡_, refl}
+use mathlib.Core.Path.{_≡_, refl, sym, subst}
 use native.Mathlib.Omega.{arith}
 use Prim.Native.Nat.{ℕ, zero, suc, _+_, _≤_, _<_}
 use Rattle.records.proofs.FieldLaws.{NumberRead, ListedForm, ListedRead, number-read, number-is, listed-read, listed-is}
 use Rattle.records.specs.declared.Ask.{Ask}
 use Rattle.records.specs.declared.Cursor.{Cursor}
 use Rattle.records.specs.declared.ListedField.{ListedField}
+use Rattle.records.specs.declared.ListedField.the-variants.{Value as listed-value, Refused as listed-refused}
 use Rattle.records.specs.declared.Listing.{Listing}
 use Rattle.records.specs.declared.NumberField.{NumberField}
 use Rattle.records.specs.declared.NumberField.the-variants.{Value as number-value, Refused as number-refused}
@@ -18,19 +19,17 @@ use Rattle.records.specs.declared.Reading.{Reading}
 use Rattle.records.specs.declared.Reading.the-variants.{Whole, Refused}
 use Rattle.records.specs.declared.ReadRequest.{ReadRequest}
 pub use Rattle.records.specs.Reads.{ListingRead, none, more, stop, SlotRead, LimitRead, RequestRead, no-slot, no-limit, no-listing, whole}
-use Rattle.records.specs.Request.{contentAt, isField, isListing, lengthAt, limitField, listedField, noAsks, numberAt, readListing, readRequest, refusedRequest, slotField, withListing}
+use Rattle.records.specs.Request.{contentAt, isField, isListing, lengthAt, limitField, listedField, noAsks, readListing, readRequest, slotField, withListing}
 use Rattle.slots.proofs.Below.{and-both}
-use Rattle.slots.specs.Clocks.{coreSlot}
 use Rattle.slots.specs.Limits.{IDS, LARGEST-BOUND, LARGEST-K, LAST-SLOT, LONGEST}
 use Rattle.timetable.specs.Sound.{isBound}
 
--- A tag 3 field in range, and where it ends.
+-- A tag 3 field in range, and that it ends ahead.
 pub record ListedRange (s : List ℕ) (at next bound : ℕ) : Type 0 where
   pub id-range : contentAt s at 0 < IDS
   pub k-range : contentAt s at 1 ≤ LARGEST-K
   pub bound-range : bound ≤ LARGEST-BOUND
   pub ahead : at < next
-  pub inside : next ≤ length s
 
 -- A field stands inside the record, with its tag and its length.
 pub field-inside : (s : List ℕ) (at tag size : ℕ) → isField s at tag size ≡ true
@@ -59,7 +58,6 @@ listed-range s at (ListedForm.long p) e =
       k-range = leb-true _ _ (b .1);
       bound-range = leb-true _ _ (c .1);
       ahead = omega arith;
-      inside = omega (arith, field-inside s at 3 3 p .0);
     }
 listed-range s at (ListedForm.short p q) e =
     let b = and-both _ _ e in
@@ -68,7 +66,6 @@ listed-range s at (ListedForm.short p q) e =
       k-range = leb-true _ _ (b .1);
       bound-range = omega arith;
       ahead = omega arith;
-      inside = omega (arith, field-inside s at 3 2 q .0);
     }
 
 -- A listing is read so. (It has as many fields as bytes are left, or fewer.)
@@ -83,49 +80,9 @@ listing-read s end (suc most) at floor asks h =
         → ((next floor : ℕ) (asks : List Ask) → end ≤ next + most → ListingRead s end next floor asks (readListing most s end next floor asks))
         → ListingRead s end at floor asks (readListing (suc most) s end at floor asks)
     go true e f w g ih = rw (e, readListing) (none (leb-true _ _ e))
-    go false e f w (ListedRead.wrong p q) ih = rw (e, readListing, w) (stop (leb-false _ _ e) (ListedRead.wrong p q))
-    go false e f w (ListedRead.high p q) ih = rw (e, readListing, w) (stop (leb-false _ _ e) (ListedRead.high p q))
-    go false e f w (ListedRead.low p q k) ih = rw (e, readListing, w) (stop (leb-false _ _ e) (ListedRead.low p q k))
-    go false e f w (ListedRead.value p q k) ih =
+    go false e (listed-refused r) w g ih = rw (e, readListing, w) (stop (leb-false _ _ e) g)
+    go false e (listed-value l next) w (ListedRead.value p q k) ih =
         rw (e, readListing, w) (more (leb-false _ _ e) p q k (ih _ _ _ (omega (arith, listed-range s at p q .ahead))))
-
--- A request is read so.
-pub request-read : (s : List ℕ) → RequestRead s (readRequest s)
-unfolding readRequest withListing
-request-read s = from-slot (slotField s 0) (number-read s 0 1 8 LAST-SLOT)
-  where
-    from-listing : (slot limit : ℕ) (d : Reading) (asks : List Ask) → SlotRead s 0 (number-value slot (record { at = 11 }))
-        → LimitRead s 11 (number-value limit (record { at = 15 })) → ListingRead s (length s) 15 0 noAsks (record { reading = d; asks = asks })
-        → RequestRead s (withListing (coreSlot slot) limit (record { reading = d; asks = asks }))
-    from-listing slot limit Whole asks a b c = whole a b c
-    from-listing slot limit (Refused r) asks a b c = no-listing a b c
-
-    from-limit : (slot : ℕ) (f : NumberField) → SlotRead s 0 (number-value slot (record { at = 11 })) → LimitRead s 11 f
-        → RequestRead s
-        (elim f [
-          | number-value limit next ↦ withListing (coreSlot slot) limit (readListing (length s) s (length s) (next .at) 0 noAsks)
-          | number-refused r ↦ refusedRequest r
-        ])
-    from-limit slot f a (NumberRead.wrong p) = no-limit a (NumberRead.wrong p)
-    from-limit slot f a (NumberRead.high p q) = no-limit a (NumberRead.high p q)
-    from-limit slot f a (NumberRead.value p q) =
-        let x = readListing (length s) s (length s) 15 0 noAsks in
-        from-listing slot (numberAt s 14 1) (x .reading) (x .asks) a (NumberRead.value p q)
-        (listing-read s (length s) (length s) 15 0 noAsks (omega arith))
-
-    from-slot : (f : NumberField) → SlotRead s 0 f
-        → RequestRead s
-        (elim f [
-          | number-value slot next ↦
-              elim (limitField s (next .at)) [
-                | number-value limit next ↦ withListing (coreSlot slot) limit (readListing (length s) s (length s) (next .at) 0 noAsks)
-                | number-refused r ↦ refusedRequest r
-              ]
-          | number-refused r ↦ refusedRequest r
-        ])
-    from-slot f (NumberRead.wrong p) = no-slot (NumberRead.wrong p)
-    from-slot f (NumberRead.high p q) = no-slot (NumberRead.high p q)
-    from-slot f (NumberRead.value p q) = from-limit _ (limitField s 11) (NumberRead.value p q) (number-read s 11 2 1 LONGEST)
 
 -- Reading a listing gives what its steps say.
 pub listing-is : (s : List ℕ) (end most : ℕ) {at floor : ℕ} {asks : List Ask} {x : Listing} → ListingRead s end at floor asks x → end ≤ at + most
@@ -149,3 +106,25 @@ request-is s x (no-listing a b c) =
     rw (number-is s 0 1 8 LAST-SLOT _ a, readRequest, number-is s 11 2 1 LONGEST _ b, listing-is s (length s) (length s) c (omega arith))
 request-is s x (whole a b c) =
     rw (number-is s 0 1 8 LAST-SLOT _ a, readRequest, number-is s 11 2 1 LONGEST _ b, listing-is s (length s) (length s) c (omega arith))
+
+-- A request is read so.
+pub request-read : (s : List ℕ) → RequestRead s (readRequest s)
+request-read s = let r = from-slot (slotField s 0) (number-read s 0 1 8 LAST-SLOT) in subst (RequestRead s) (sym (request-is s _ (r .1))) (r .1)
+  where
+    from-listing : (slot limit : ℕ) (d : Reading) (asks : List Ask) → SlotRead s 0 (number-value slot (record { at = 11 }))
+        → LimitRead s 11 (number-value limit (record { at = 15 })) → ListingRead s (length s) 15 0 noAsks (record { reading = d; asks = asks })
+        → (x : ReadRequest) × RequestRead s x
+    from-listing slot limit Whole asks a b c = (_, whole a b c)
+    from-listing slot limit (Refused r) asks a b c = (_, no-listing a b c)
+
+    from-limit : (slot : ℕ) (f : NumberField) → SlotRead s 0 (number-value slot (record { at = 11 })) → LimitRead s 11 f
+        → (x : ReadRequest) × RequestRead s x
+    from-limit slot (number-refused r) a b = (_, no-limit a b)
+    from-limit slot (number-value limit next) a (NumberRead.value p q) =
+        let x = readListing (length s) s (length s) 15 0 noAsks in
+        from-listing slot limit (x .reading) (x .asks) a (NumberRead.value p q) (listing-read s (length s) (length s) 15 0 noAsks (omega arith))
+
+    from-slot : (f : NumberField) → SlotRead s 0 f → (x : ReadRequest) × RequestRead s x
+    from-slot (number-refused r) a = (_, no-slot a)
+    from-slot (number-value slot next) (NumberRead.value p q) =
+        from-limit slot (limitField s 11) (NumberRead.value p q) (number-read s 11 2 1 LONGEST)
