@@ -1,24 +1,20 @@
 // The program: frames of requests from standard input, a line for each to standard output, in bounded memory. A bad frame ends it.
-use change::Outcome;
 use frames::HEADER;
 use frames::stream;
-use frames::stream::Next;
-use frames::stream::Places;
 use numbers::Refusal;
 use timetable::Timetable;
 ghost use lib.ListN.{length};
 ghost use mathlib.Core.Path.{_≡_};
-ghost use Prim.Native.Nat.{suc, _+_, _-_, _^_, _≤_, _<_};
-ghost use Rattle.changer.specs.Answers.{Answered, Turned, Unanswered, lengthOf, startController};
-ghost use Rattle.changer.specs.Runs.{Ran};
-ghost use Rattle.frames.specs.Buffers.{Inside, nextOf, unread};
-ghost use Rattle.frames.specs.Coded.{LINE-ROOM};
+ghost use Prim.Native.Nat.{_+_, _-_, _^_, _≤_, _<_};
+ghost use Rattle.changer.specs.Answers.{Answered, Answers, requestLine};
+ghost use Rattle.frames.specs.Coded.{LINE-ROOM, Puts};
+ghost use Rattle.frames.specs.Program.{answeredLength};
 
-// The timetable in force, the next request's ordinal, and where the program stands in its buffers.
+// The timetable in force, the next request's ordinal, and where the last line ends in the output.
 struct Controller {
     timetable: Timetable,
     ordinal: u64,
-    places: Places,
+    put: usize,
 }
 
 fn main() {
@@ -27,113 +23,52 @@ fn main() {
     run(&mut input, &mut out);
 }
 
-// Answers frames until the input ends, and tells how much output still waits: nothing. A proved loop has to end, so it counts its turns down, from a number that no run uses up.
+// Answers requests until the input is over, and tells how much output still waits: nothing. A proved loop has to end: this one would at the largest ordinal, which no run reaches.
 fn run(input: &mut [u8], out: &mut [u8]) -> usize
     requires { ⌜ LINE-ROOM ≤ length (now out) ⌝ }
-    ensures { λ r. ⌜ (r ≡ 0) × Ran (now (input .entry)) (now (out .entry)) (now (input .exit)) (now (out .exit)) ⌝ }
+    ensures { λ r. ⌜ (r ≡ 0) × Answers (now (input .entry)) (now (out .entry)) (now (input .exit)) (now (out .exit)) ⌝ }
 {
-    let mut s = start();
-    let mut turns = u64::MAX;
-    while turns > 0 && s.places.open {
-        turns -= 1;
-        s = turn(s, input, out);
-    }
-    stream::flush(out, s.places.put)
-}
-
-// Nothing read, nothing printed, and the empty timetable.
-fn start() -> Controller
-    ensures { λ r. ⌜ r ≡ startController ⌝ }
-{
-    let t = Timetable::empty();
-    let p = stream::start();
-    Controller {
-        timetable: t,
+    let mut s = Controller {
+        timetable: Timetable::empty(),
         ordinal: 1,
-        places: p,
+        put: 0,
+    };
+    let mut p = stream::next_frame(0, 0, 0, input, out);
+    while s.ordinal < u64::MAX && p.open {
+        let content = p.from + HEADER;
+        let end = p.end;
+        s = answered(s, &input[content..end], p.put, out);
+        p = stream::next_frame(end, p.to, s.put, input, out);
     }
+    stream::flush(out, p.put)
 }
 
-// One turn: a whole frame is answered, a part of one waits for more input, and anything else ends it.
-fn turn(s: Controller, input: &mut [u8], out: &mut [u8]) -> Controller
-    requires { ⌜ Inside (s .places) (length (now input)) (length (now out)) ⌝ }
-    ensures { λ r. ⌜ Inside (r .places) (length (now (input .entry))) (length (now (out .entry))) ⌝ }
-    ensures { λ r. ⌜ Turned (nextOf (unread (now (input .entry)) (s .places .from) (s .places .to))) s (now (input .entry)) (now (out .entry)) (now (input .exit)) (now (out .exit)) r ⌝ }
+// A request is answered, and its line put into the output.
+fn answered(s: Controller, request: &[u8], put: usize, out: &mut [u8]) -> Controller
+    requires { ⌜ (put + LINE-ROOM ≤ length (now out)) × (s .ordinal < 2 ^ 64 - 1) ⌝ }
+    ensures { λ r. ⌜ (r .put ≤ length (now (out .entry))) × Answered s (now (request .entry)) (requestLine s (now (request .entry))) r ⌝ }
+    ensures { λ r. ⌜ Puts (now (out .entry)) put (requestLine s (now (request .entry))) (now (out .exit)) (r .put) ⌝ }
 {
-    let p = s.places;
-    match stream::ahead(input, p.from, p.to) {
-        Next::Frame(size) => answered(s, input, size, out),
-        Next::Part => moved(s, stream::filled(p, input, out)),
-        Next::Bad => moved(s, stream::ended(p, out)),
-    }
-}
-
-// The same timetable and ordinal, at other places.
-fn moved(s: Controller, places: Places) -> Controller
-    ensures { λ r. ⌜ Unanswered s r × (r .places ≡ places) ⌝ }
-{
-    let t = s.timetable;
-    Controller {
-        timetable: t,
-        ordinal: s.ordinal,
-        places,
-    }
-}
-
-// The request in the frame ahead is answered, and its line put into the output.
-fn answered(s: Controller, input: &[u8], size: usize, out: &mut [u8]) -> Controller
-    requires { ⌜ Inside (s .places) (length (now input)) (length (now out)) × (s .places .from + 3 + size ≤ s .places .to) ⌝ }
-    ensures { λ r. ⌜ Inside (r .places) (length (now (input .entry))) (length (now (out .entry))) ⌝ }
-    ensures { λ r. ⌜ Answered s (now (input .entry)) size (now (out .entry)) (now (out .exit)) r ⌝ }
-{
-    let p = s.places;
-    let put = stream::room(out, p.put);
-    let content = p.from + HEADER;
-    let end = content + size;
     let t = s.timetable;
     let mut area = [0u8; Timetable::AREA];
-    let o = change::change(t, &input[content..end], &mut area);
-    let next = frames::write_line(
-        out,
-        put,
-        s.ordinal,
-        o.number,
-        o.place,
-        o.tries,
-        length_of(o),
-    );
+    let o = change::change(t, request, &mut area);
     let now = o.timetable;
-    let places = Places {
-        from: end,
-        to: p.to,
-        put: next,
-        open: true,
-    };
+    let size = length_of(o.number, now.length);
+    let end = frames::write_line(out, put, s.ordinal, o.number, o.place, o.tries, size);
     Controller {
         timetable: now,
-        ordinal: after(s.ordinal),
-        places,
+        ordinal: s.ordinal + 1,
+        put: end,
     }
 }
 
 // The transition's length, 0 if the request was refused.
-fn length_of(o: Outcome) -> u8
-    ensures { λ r. ⌜ r ≡ lengthOf o ⌝ }
+fn length_of(number: u8, length: u8) -> u8
+    ensures { λ r. ⌜ r ≡ answeredLength number length ⌝ }
 {
-    if o.number == Refusal::ACCEPTED {
-        o.timetable.length
+    if number == Refusal::ACCEPTED {
+        length
     } else {
         0
-    }
-}
-
-// The next ordinal. It stays at the largest number, which no run reaches.
-fn after(ordinal: u64) -> u64
-    ensures { λ r. ⌜ (ordinal < 2 ^ 64 - 1 → r ≡ suc ordinal) × (ordinal ≡ 2 ^ 64 - 1 → r ≡ ordinal) ⌝ }
-{
-    if ordinal < u64::MAX {
-        ordinal + 1
-    } else {
-        ordinal
     }
 }

@@ -27,7 +27,7 @@ module _ (s : List ℕ) where
   behind-stands Bad e there = bad-head s there e
 
   -- What `nextOf` tells of some bytes stands there.
-  pub next-stands : Stands (nextOf s) s
+  next-stands : Stands (nextOf s) s
   unfolding nextOf
   next-stands = header (ltb (length s) 3) refl
     where
@@ -35,14 +35,8 @@ module _ (s : List ℕ) where
       header true e = cut-head s (ltb-true (length s) 3 e)
       header false e = behind-stands (headOf (getD s 0 0) (getD s 1 0) (getD s 2 0)) refl (ltb-false (length s) 3 e)
 
-  -- A header that is bad is there, whole.
-  pub none-there : nextOf s ≡ none → 3 ≤ length s
-  unfolding nextOf
-  none-there = header (ltb (length s) 3) refl
-    where
-      header : (b : Bool) → ltb (length s) 3 ≡ b → cond b Part (behindHead (headOf (getD s 0 0) (getD s 1 0) (getD s 2 0)) (length s - 3)) ≡ none → 3 ≤ length s
-      header true e f = let z : _≡_ {A = ℕ} 0 1 = cc in absurd (omega arith)
-      header false e f = ltb-false (length s) 3 e
+  pub stands : (next : Next) → nextOf s ≡ next → Stands next s
+  stands next e = subst (λ (n : Next). Stands n s) e next-stands
 
 module _ (l : List ℕ) (from to : ℕ) (order : from ≤ to) (inside : to ≤ length l) where
   -- As many bytes are unread as lie between the places.
@@ -65,7 +59,7 @@ module _ (l : List ℕ) (from to : ℕ) (order : from ≤ to) (inside : to ≤ l
   -- So has the frame that stands next.
   pub frame-ahead : (r : Next) → r ≡ nextOf (unread l from to) → (size : ℕ) → r ≡ Frame size → from + 3 + size ≤ to
   frame-ahead r e size f =
-      frame-inside size (subst (λ (n : Next). Stands n (unread l from to)) (sym e ∙ f) (next-stands (unread l from to)))
+      frame-inside size (stands (unread l from to) (Frame size) (sym e ∙ f))
 
   module _ (whole : 3 ≤ to - from) (r : Head) (answer : r ≡ headOf (getD l from 0) (getD l (from + 1) 0) (getD l (from + 2) 0)) where
     -- The header that was read is that of what is unread.

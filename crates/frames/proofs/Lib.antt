@@ -3,3 +3,4 @@ pub mod FrameLaws
 pub mod InputLaws
 pub mod LineLaws
 pub mod ProgramLaws
+pub mod RunLaws

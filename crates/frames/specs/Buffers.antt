@@ -1,31 +1,32 @@
 -- Where a program stands in its two buffers, and what stands next in its input.
-use lib.Dec.{eqb, leb, ltb}
+use lib.Dec.{leb, ltb}
 use lib.ListN.{drop, getD, length, take}
-use mathlib.Core.Bool.{Bool, true, false, cond, _&&_}
+use mathlib.Core.Bool.{Bool, true, false, cond}
 use mathlib.Core.List.{List, _++_}
 use mathlib.Core.Path.{_≡_}
-use Prim.Native.Nat.{ℕ, _-_, _≤_}
+use Prim.Native.Nat.{ℕ, _+_, _-_, _≤_}
 use Rattle.frames.specs.Coded.{LINE-ROOM, Puts, headOf}
 use Rattle.frames.specs.declared.Head.{Head}
 use Rattle.frames.specs.declared.Head.the-variants.{Content, Bad as bad}
 use Rattle.frames.specs.declared.stream.Next.{Next}
 use Rattle.frames.specs.declared.stream.Next.the-variants.{Frame, Part, Bad}
 use Rattle.frames.specs.declared.stream.Places.{Places}
-use Rattle.frames.specs.Program.{badFrame, isFrame}
+use Rattle.frames.specs.Program.{badFrame, isBad, isFrame}
 use Rattle.records.specs.Request.{lengthAt}
 
--- Nothing read, and nothing printed.
-abbrev pub startPlaces : Places
-startPlaces = record { from = 0; to = 0; put = 0; «open» = true }
-
--- What was read and not yet answered, and the output that waits, lie in buffers of these lengths, and an empty output buffer has room for a line.
-pub record Inside (s : Places) (input output : ℕ) : Type 0 where
-  pub unread : s .from ≤ s .to
-  pub read : s .to ≤ input
-  pub waiting : s .put ≤ output
+-- What is unread and the output that waits lie in buffers of these lengths, and an empty output buffer has room for a line.
+pub record Reached (from to put input output : ℕ) : Type 0 where
+  pub unread : from ≤ to
+  pub read : to ≤ input
+  pub waiting : put ≤ output
   pub room : LINE-ROOM ≤ output
 
--- What was read and not yet answered.
+-- What stands behind the frame ahead is unread, its header stands before its end, and its line has room.
+pub record Inside (s : Places) (input output : ℕ) : Type 0 where
+  pub behind : Reached (s .end) (s .to) (s .put) input output
+  pub whole : s .«open» ≡ true → (s .from + 3 ≤ s .end) × (s .put + LINE-ROOM ≤ output)
+
+-- What stands in the input between two places.
 abbrev pub unread : List ℕ → ℕ → ℕ → List ℕ
 unread input from to = take (to - from) (drop from input)
 
@@ -48,22 +49,33 @@ nextOf s = cond (ltb (length s) 3) Part (behindHead (headOf (getD s 0 0) (getD s
 unfoldable pub lineAt : ℕ → ℕ → ℕ
 lineAt put room = cond (leb LINE-ROOM (room - put)) put 0
 
--- The input is over: `bad frame` was put into the output where a line goes, and nothing follows it.
-pub record Ended (s : Places) (before after : List ℕ) (r : Places) : Type 0 where
-  pub from : r .from ≡ s .from
-  pub to : r .to ≡ s .to
-  pub goes-on : r .«open» ≡ false
-  pub put : Puts before (lineAt (s .put) (length before)) badFrame after (r .put)
+-- What was put at a place of the output: `bad frame` for a bad frame, and else nothing.
+abbrev pub Waits : Bool → ℕ → List ℕ → List ℕ → ℕ → Type 0
+Waits true at before after put = Puts before at badFrame after put
+Waits false at before after put = (put ≡ at) × (after ≡ before)
 
--- What waits in the output, at its front: `bad frame` if the input was cut off, and else nothing.
-abbrev pub Waits : Bool → List ℕ → List ℕ → ℕ → Type 0
-Waits true before after put = Puts before 0 badFrame after put
-Waits false before after put = (put ≡ 0) × (after ≡ before)
+-- The input is over, and what is left of it stands between these places.
+abbrev pub overAt : ℕ → ℕ → ℕ → Places
+overAt from to put = record { from = from; end = to; to = to; put = put; «open» = false }
 
--- What was unread stands at the front of the input, and what was read once more behind it. If that is nothing, no more follows, and a part of a frame that was left is cut off.
-pub record Filled (s : Places) (input out input-after out-after : List ℕ) (r : Places) : Type 0 where
-  pub from : r .from ≡ 0
-  pub to : s .to - s .from ≤ r .to
-  pub kept : take (s .to - s .from) input-after ≡ unread input (s .from) (s .to)
-  pub goes-on : r .«open» ≡ ltb (s .to - s .from) (r .to)
-  pub waits : Waits (ltb 0 (s .to - s .from) && eqb (s .to - s .from) (r .to)) out out-after (r .put)
+-- A program that waits for a frame stands as it stood.
+abbrev pub Still : (from to put : ℕ) → List ℕ → ℕ → ℕ → ℕ → List ℕ → Type 0
+Still from to put input first last waits then = (first ≡ from) × (last ≡ to) × (waits ≡ put) × (then ≡ input)
+
+-- It read more: what was unread stands at the front of its input, more behind it, and nothing waits in the output.
+abbrev pub More : (from to : ℕ) → List ℕ → ℕ → ℕ → ℕ → List ℕ → Type 0
+More from to input first last waits then = (first ≡ 0) × (waits ≡ 0) × (to - from ≤ last) × (take (to - from) then ≡ unread input from to)
+
+-- Which of the two, by what stood next: more is read behind a part of a frame only.
+abbrev pub ReadOn : Next → (from to put : ℕ) → List ℕ → ℕ → ℕ → ℕ → List ℕ → Type 0
+ReadOn (Frame size) from to put input first last waits then = Still from to put input first last waits then
+ReadOn Part from to put input first last waits then = More from to input first last waits then
+ReadOn Bad from to put input first last waits then = Still from to put input first last waits then
+
+-- A frame was awaited: a whole one stands ahead, or the input is over, and what is left of it is none; `bad frame` was put if that is something, where a line goes behind what was still waiting.
+pub record Awaited (from to put : ℕ) (input out input-after out-after : List ℕ) (r : Places) : Type 0 where
+  pub waiting : ℕ
+  pub read : ReadOn (nextOf (unread input from to)) from to put input (r .from) (r .to) waiting input-after
+  pub frame : isFrame (unread input-after (r .from) (r .to)) ≡ r .«open»
+  pub end : r .end ≡ cond (r .«open») (r .from + 3 + lengthAt (unread input-after (r .from) (r .to)) 0) (r .to)
+  pub waits : Waits (isBad (unread input-after (r .from) (r .to))) (lineAt waiting (length out)) out out-after (r .put)

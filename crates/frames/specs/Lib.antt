@@ -1,3 +1,4 @@
 pub mod Buffers
 pub mod Coded
 pub mod Program
+pub mod Runs

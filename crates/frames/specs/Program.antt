@@ -1,7 +1,7 @@
 -- Document 01, "The program": frames of requests in, a line per request out.
 use lib.Dec.{eqb, leb, ltb}
 use lib.ListN.{drop, getD, length, take}
-use mathlib.Core.Bool.{Bool, true, false, cond, _&&_}
+use mathlib.Core.Bool.{Bool, true, false, cond, not, _&&_}
 use mathlib.Core.List.{List, [], _∷_, _++_}
 use Prim.Native.Nat.{ℕ, zero, suc, _+_, _/_, _%_}
 use Rattle.change.specs.Change.{answer}
@@ -41,9 +41,9 @@ digits (suc most) n = elim (ltb n 10) [ true ↦ (48 + n) ∷ [] | false ↦ dig
 unfoldable pub decimal : ℕ → List ℕ
 decimal n = digits 20 n
 
--- The transition length of an answer, 0 if refused.
-unfoldable pub answeredLength : Answer → ℕ
-answeredLength a = cond (eqb (a .number) ACCEPTED) (a .timetable .length) 0
+-- The transition length that a line tells, by the number of its answer: 0 if refused.
+unfoldable pub answeredLength : ℕ → ℕ → ℕ
+answeredLength number size = cond (eqb number ACCEPTED) size 0
 
 -- A line: ordinal, number, place, tries, transition length, one space apart.
 unfoldable pub lineOf : ℕ → ℕ → ℕ → ℕ → ℕ → List ℕ
@@ -52,11 +52,19 @@ lineOf ordinal number place tries size =
 
 -- The line of an answer.
 unfoldable pub line : ℕ → Answer → List ℕ
-line ordinal a = lineOf ordinal (a .number) (a .place) (a .tries) (answeredLength a)
+line ordinal a = lineOf ordinal (a .number) (a .place) (a .tries) (answeredLength (a .number) (a .timetable .length))
 
 -- The text `bad frame` on a line.
 abbrev pub badFrame : List ℕ
 badFrame = 98 ∷ 97 ∷ 100 ∷ 32 ∷ 102 ∷ 114 ∷ 97 ∷ 109 ∷ 101 ∷ 10 ∷ []
+
+-- Something is ahead, and it begins with no frame: a bad frame.
+unfoldable pub isBad : List ℕ → Bool
+isBad s = ltb 0 (length s) && not (isFrame s)
+
+-- What is printed where no frame is ahead.
+abbrev pub lastLine : List ℕ → List ℕ
+lastLine s = cond (isBad s) badFrame []
 
 -- What is printed for the input ahead, from an ordinal and a timetable on; a bad frame ends it. (As many frames as there are bytes are enough.)
 unfoldable pub linesFrom : ℕ → List ℕ → ℕ → Timetable → List ℕ

@@ -4,41 +4,65 @@ use crate::Head;
 use crate::LINE_ROOM;
 use libc::STDIN_FILENO;
 use libc::STDOUT_FILENO;
+ghost use lib.Dec.{ltb};
 ghost use lib.ListN.{length, take};
 ghost use mathlib.Core.Path.{_≡_};
-ghost use Prim.Native.Nat.{_+_, _≤_};
-ghost use Rattle.frames.specs.Buffers.{Ended, Filled, Inside, lineAt, nextOf, startPlaces, unread};
+ghost use Prim.Native.Nat.{_+_, _-_, _≤_};
+ghost use Rattle.frames.specs.Buffers.{Awaited, Inside, Reached, Waits, lineAt, nextOf, overAt, unread};
 ghost use Rattle.frames.specs.Coded.{LINE-ROOM};
 
-// The input read and not yet answered, from `from` up to `to`; the output that waits, up to `put`; and whether to go on.
+// Whether a whole frame stands ahead, from `from` up to `end`; the input read, up to `to`; and the output that waits, up to `put`. If none does, the input is over.
 pub struct Places {
     pub from: usize,
+    pub end: usize,
     pub to: usize,
     pub put: usize,
     pub open: bool,
 }
 
 // What stands next in the input: a whole frame with that much content, a part of one, or none.
-pub enum Next {
+enum Next {
     Frame(usize),
     Part,
     Bad,
 }
 
-// Nothing read, and nothing printed.
-pub fn start() -> Places
-    ensures { λ r. ⌜ r ≡ startPlaces ⌝ }
+// Waits until a whole frame stands ahead, with room for a line in the output, or the input is over. While a part of one does, what waits is printed, and more input is read behind the part.
+pub fn next_frame(from: usize, to: usize, put: usize, input: &mut [u8], out: &mut [u8]) -> Places
+    requires { ⌜ Reached from to put (length (now input)) (length (now out)) ⌝ }
+    ensures { λ r. ⌜ Inside r (length (now (input .exit))) (length (now (out .exit))) ⌝ }
+    ensures { λ r. ⌜ Awaited from to put (now (input .entry)) (now (out .entry)) (now (input .exit)) (now (out .exit)) r ⌝ }
 {
-    Places {
-        from: 0,
-        to: 0,
-        put: 0,
-        open: true,
+    let mut first = from;
+    let mut last = to;
+    let mut waits = put;
+    loop {
+        match ahead(input, first, last) {
+            Next::Frame(size) => {
+                return Places {
+                    from: first,
+                    end: first + HEADER + size,
+                    to: last,
+                    put: room(out, waits),
+                    open: true,
+                };
+            }
+            Next::Bad => return ended(first, last, waits, out),
+            Next::Part => {
+                let part = last - first;
+                waits = flush(out, waits);
+                last = read_behind(input, first, last);
+                first = 0;
+                if last == part {
+                    return ended(first, last, waits, out);
+                }
+            }
+        }
     }
 }
 
 // What stands between two places of the input.
-pub fn ahead(input: &[u8], from: usize, to: usize) -> Next
+fn ahead(input: &[u8], from: usize, to: usize) -> Next
     requires { ⌜ (from ≤ to) × (to ≤ length (now input)) ⌝ }
     ensures { λ r. ⌜ r ≡ nextOf (unread (now (input .entry)) from to) ⌝ }
 {
@@ -57,55 +81,40 @@ pub fn ahead(input: &[u8], from: usize, to: usize) -> Next
     }
 }
 
-// What waits is printed, the part of a frame moves to the front, and more input is read behind it. At the input's end such a part is a bad frame.
-pub fn filled(s: Places, input: &mut [u8], out: &mut [u8]) -> Places
-    requires { ⌜ Inside s (length (now input)) (length (now out)) ⌝ }
-    ensures { λ r. ⌜ Inside r (length (now (input .entry))) (length (now (out .entry))) ⌝ }
-    ensures { λ r. ⌜ Filled s (now (input .entry)) (now (out .entry)) (now (input .exit)) (now (out .exit)) r ⌝ }
+// The part of a frame between two places moves to the front, and more input is read once behind it; tells up to where. A read that fails ends the input.
+fn read_behind(input: &mut [u8], from: usize, to: usize) -> usize
+    requires { ⌜ (from ≤ to) × (to ≤ length (now input)) ⌝ }
+    ensures { λ r. ⌜ (to - from ≤ r) × (r ≤ length (now (input .entry))) ⌝ }
+    ensures { λ r. ⌜ take (to - from) (now (input .exit)) ≡ unread (now (input .entry)) from to ⌝ }
 {
-    let put = flush(out, s.put);
-    let kept = crate::keep_rest(input, s.from, s.to);
-    let to = read_behind(input, kept);
-    let more = Places {
-        from: 0,
-        to,
-        put,
-        open: kept < to,
-    };
-    if 0 < kept && kept == to {
-        return ended(more, out);
-    }
-    more
-}
-
-// Reads once behind the bytes that stand in the buffer, and tells how many stand there then. A read that fails ends the input.
-fn read_behind(input: &mut [u8], kept: usize) -> usize
-    requires { ⌜ kept ≤ length (now input) ⌝ }
-    ensures { λ r. ⌜ (kept ≤ r) × (r ≤ length (now (input .entry))) ⌝ }
-    ensures { λ r. ⌜ take kept (now (input .exit)) ≡ take kept (now (input .entry)) ⌝ }
-{
+    let kept = crate::keep_rest(input, from, to);
     let got = libc::read(STDIN_FILENO, &mut input[kept..]);
     kept + io::count(got, &input[kept..])
 }
 
-// `bad frame` is put into the output, and nothing follows it.
-pub fn ended(s: Places, out: &mut [u8]) -> Places
-    requires { ⌜ (s .put ≤ length (now out)) × (LINE-ROOM ≤ length (now out)) ⌝ }
-    ensures { λ r. ⌜ r .put ≤ length (now (out .entry)) ⌝ }
-    ensures { λ r. ⌜ Ended s (now (out .entry)) (now (out .exit)) r ⌝ }
+// The input is over: if something is left of it, `bad frame` is put into the output.
+fn ended(from: usize, to: usize, put: usize, out: &mut [u8]) -> Places
+    requires { ⌜ (put ≤ length (now out)) × (LINE-ROOM ≤ length (now out)) ⌝ }
+    ensures { λ r. ⌜ (r .put ≤ length (now (out .entry))) × (r ≡ overAt from to (r .put)) ⌝ }
+    ensures { λ r. ⌜ Waits (ltb 0 (to - from)) (lineAt put (length (now (out .entry)))) (now (out .entry)) (now (out .exit)) (r .put) ⌝ }
 {
-    let put = room(out, s.put);
-    let end = crate::write_bad_frame(out, put);
+    let at = room(out, put);
+    let end = if from < to {
+        crate::write_bad_frame(out, at)
+    } else {
+        at
+    };
     Places {
-        from: s.from,
-        to: s.to,
+        from,
+        end: to,
+        to,
         put: end,
         open: false,
     }
 }
 
 // Where a line can be put: behind what waits, or at the front once that is printed.
-pub fn room(out: &[u8], put: usize) -> usize
+fn room(out: &[u8], put: usize) -> usize
     requires { ⌜ (put ≤ length (now out)) × (LINE-ROOM ≤ length (now out)) ⌝ }
     ensures { λ r. ⌜ (r + LINE-ROOM ≤ length (now (out .entry))) × (r ≡ lineAt put (length (now (out .entry)))) ⌝ }
 {

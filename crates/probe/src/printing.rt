@@ -5,6 +5,13 @@ ghost use lib.ListN.{length};
 ghost use mathlib.Core.Path.{_≡_};
 ghost use Prim.Native.Nat.{_+_, _%_, _≤_, _<_};
 
+// How bytes are printed: as they are, in hexadecimal, or packed and in hexadecimal.
+enum Form {
+    Text,
+    Hex,
+    Packed,
+}
+
 // One byte.
 pub fn print_byte(out: &mut [u8], put: usize, byte: u8) -> usize
     ensures { λ r. ⌜ r ≤ length (now (out .entry)) ⌝ }
@@ -32,13 +39,44 @@ fn room(out: &[u8], put: usize) -> usize
 pub fn print_text(out: &mut [u8], put: usize, text: &[u8]) -> usize
     ensures { λ r. ⌜ r ≤ length (now (out .entry)) ⌝ }
 {
+    print_all(out, put, text, Form::Text)
+}
+
+// Bytes in a form.
+fn print_all(out: &mut [u8], put: usize, bytes: &[u8], form: Form) -> usize
+    ensures { λ r. ⌜ r ≤ length (now (out .entry)) ⌝ }
+{
     let mut at = reading::least(put, out.len());
     let mut i = 0;
-    while i < text.len() {
-        at = print_byte(out, at, text[i]);
-        i += 1;
+    while i < bytes.len() {
+        let run = run_in(bytes, i, form);
+        at = print_run(out, at, bytes[i], run, form);
+        i += run;
     }
     at
+}
+
+// How many bytes are printed together: those that the next packed ones stand for, else one.
+fn run_in(bytes: &[u8], from: usize, form: Form) -> usize
+    requires { ⌜ from < length (now bytes) ⌝ }
+    ensures { λ r. ⌜ (1 ≤ r) × (from + r ≤ length (now (bytes .entry))) ⌝ }
+{
+    match form {
+        Form::Text => 1,
+        Form::Hex => 1,
+        Form::Packed => run_at(bytes, from),
+    }
+}
+
+// A byte in a form, and behind a 0 that is packed how many there are.
+fn print_run(out: &mut [u8], put: usize, byte: u8, run: usize, form: Form) -> usize
+    ensures { λ r. ⌜ r ≤ length (now (out .entry)) ⌝ }
+{
+    match form {
+        Form::Text => print_byte(out, put, byte),
+        Form::Hex => print_hex(out, put, byte),
+        Form::Packed => print_packed(out, put, byte, run),
+    }
 }
 
 // A number in decimal, behind a space.
@@ -66,21 +104,7 @@ pub fn print_image(out: &mut [u8], put: usize, image: &[u8]) -> usize
         return print_text(out, put, b" -");
     }
     let at = print_byte(out, put, b' ');
-    print_packed(out, at, image)
-}
-
-// Bytes, packed, in hexadecimal.
-fn print_packed(out: &mut [u8], put: usize, image: &[u8]) -> usize
-    ensures { λ r. ⌜ r ≤ length (now (out .entry)) ⌝ }
-{
-    let mut at = reading::least(put, out.len());
-    let mut i = 0;
-    while i < image.len() {
-        let run = run_at(image, i);
-        at = print_run(out, at, image[i], run);
-        i += run;
-    }
-    at
+    print_all(out, at, image, Form::Packed)
 }
 
 // How many bytes the next packed ones stand for: a run of zeros, at most 255, or one byte that is not 0.
@@ -102,8 +126,8 @@ fn run_at(image: &[u8], from: usize) -> usize
     n
 }
 
-// A byte, and behind a 0 how many there are.
-fn print_run(out: &mut [u8], put: usize, byte: u8, run: usize) -> usize
+// A byte in hexadecimal, and behind a 0 how many there are.
+fn print_packed(out: &mut [u8], put: usize, byte: u8, run: usize) -> usize
     ensures { λ r. ⌜ r ≤ length (now (out .entry)) ⌝ }
 {
     let at = print_hex(out, put, byte);
@@ -135,7 +159,7 @@ pub fn print_area(out: &mut [u8], put: usize, area: &[u8], content: &[u8], patte
 {
     let end = touched(area, content, pattern);
     let a = print_byte(out, put, b' ');
-    let b = print_bytes(out, a, area, end);
+    let b = print_all(out, a, &area[0..end], Form::Hex);
     let c = print_byte(out, b, b'+');
     print_decimal(out, c, (area.len() - end) as u64)
 }
@@ -152,18 +176,4 @@ fn touched(area: &[u8], content: &[u8], pattern: usize) -> usize
         n -= 1;
     }
     n
-}
-
-// The first bytes of some, in hexadecimal.
-fn print_bytes(out: &mut [u8], put: usize, bytes: &[u8], count: usize) -> usize
-    requires { ⌜ count ≤ length (now bytes) ⌝ }
-    ensures { λ r. ⌜ r ≤ length (now (out .entry)) ⌝ }
-{
-    let mut at = reading::least(put, out.len());
-    let mut i = 0;
-    while i < count {
-        at = print_hex(out, at, bytes[i]);
-        i += 1;
-    }
-    at
 }

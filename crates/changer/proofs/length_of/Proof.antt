@@ -1,16 +1,16 @@
--- `changer::length_of` meets its contract: its test is that of `lengthOf`.
+-- `changer::length_of` meets its contract: its test is that of `answeredLength`.
 -- Assumes nothing.
 use borrow.Author.Tests.{eq-eqb, ne-eqb}
-use Rattle.changer.specs.Answers.{lengthOf}
+use Rattle.frames.specs.Program.{answeredLength}
 use Rattle.changer.proofs.length_of.Statement.{statement}
 use Rattle.changer.proofs.length_of.Tie as tie
 
 returns : tie.Need-returns
-unfolding lengthOf
+unfolding answeredLength
 returns c = simp (eq-eqb _ _ (c .if1 .taken))
 
 returns-2 : tie.Need-returns-2
-unfolding lengthOf
+unfolding answeredLength
 returns-2 c = simp (ne-eqb _ _ (c .if1 .left))
 
 pub length-of-spec : {M : Type 1} → statement M

@@ -1,4 +1,4 @@
--- `changer::run` meets its contract. The invariant: the places lie inside their buffers, which keep their lengths, and as many turns were taken as are gone from the count. The measure is the number of turns that are left.
+-- `changer::run` meets its contract. The invariant: the places lie inside their buffers, which keep their lengths, and as many requests were answered as the ordinal counts. The measure is how many ordinals are left.
 -- Assumes nothing.
 use borrow.Author.Needs.{needs}
 use lib.ListN.{length}
@@ -6,42 +6,90 @@ use mathlib.Core.Logic.{⊎-elim}
 use mathlib.Core.Path.{_≡_, refl}
 use native.Mathlib.Omega.{arith}
 use Prim.Native.Nat.{suc, _-_, _^_, _≤_}
+use Rattle.changer.specs.Answers.{Answered, startController}
+use Rattle.changer.specs.declared.Controller.{Controller}
+use Rattle.frames.proofs.RunLaws.{Stood, begins, one-more}
 use Rattle.frames.specs.Buffers.{Inside}
-use Rattle.changer.specs.Runs.{Runs}
-use Rattle.changer.specs.Runs.Runs.{none, turn}
+use Rattle.frames.specs.Coded.{Puts}
 use Rattle.changer.proofs.run.Statement.{statement}
 use Rattle.changer.proofs.run.Tie as tie
 
 abbrev Inv-loop : tie.InvT-loop
-Inv-loop input₀ out₀ s₀ turns₀ input out s turns =
-    Inside (s .places) (length input) (length out) × (length input ≡ length input₀) × (length out ≡ length out₀)
-    × (turns ≤ 2 ^ 64 - 1) × Runs input₀ out₀ s input out (2 ^ 64 - 1 - turns)
+Inv-loop input₀ out₀ s₀ p₀ input out s p =
+    Inside p (length input) (length out) × (length input ≡ length input₀) × (length out ≡ length out₀) × (1 ≤ s .ordinal) × (s .ordinal ≤ 2 ^ 64 - 1)
+    × Stood Controller Answered Puts startController p₀ input₀ out₀ s p input out (s .ordinal - 1)
 
 abbrev μ-loop : tie.MeasureT-loop
-μ-loop input₀ out₀ s₀ turns₀ input out s turns = turns
+μ-loop input₀ out₀ s₀ p₀ input out s p = 2 ^ 64 - 1 - s .ordinal
 
-start-requires : tie.Need-start-requires Inv-loop μ-loop
-start-requires c κs = search needs
+empty-requires : tie.Need-empty-requires Inv-loop μ-loop
+empty-requires c κs = search needs
+
+next-frame-requires : tie.Need-next-frame-requires Inv-loop μ-loop
+next-frame-requires c κs = search needs
 
 loop-holds : tie.Need-loop-holds Inv-loop μ-loop
-loop-holds c = rw (c .start .ensures) (search needs, refl, refl, search needs, none)
+loop-holds c =
+    let begin = c .before .before .before .before in
+    let empty = begin .before .before .before in
+    (begin .next-frame .ensures .0, refl, refl, omega arith, omega arith, rw (empty .empty .ensures) (begins Controller Answered Puts startController))
 
-sub-turns : tie.Need-sub-turns Inv-loop μ-loop
-sub-turns c = search needs
+add-content : tie.Need-add-content Inv-loop μ-loop
+add-content c =
+    let goes = c .before in
+    let whole = goes .before .before .before .loop .inv .0 .whole (goes .if2 .taken) in
+    search needs
 
-turn-requires : tie.Need-turn-requires Inv-loop μ-loop
-turn-requires c κs = search needs
+sub-answered : tie.Need-sub-answered Inv-loop μ-loop
+sub-answered c =
+    let goes = c .before in
+    let whole = goes .before .before .before .loop .inv .0 .whole (goes .if2 .taken) in
+    search needs
+
+part-answered-start : tie.Need-part-answered-start Inv-loop μ-loop
+part-answered-start c =
+    let goes = c .before .before in
+    let whole = goes .before .before .before .loop .inv .0 .whole (goes .if2 .taken) in
+    search needs
+
+part-answered-end : tie.Need-part-answered-end Inv-loop μ-loop
+part-answered-end c =
+    let goes = c .before .before in
+    let whole = goes .before .before .before .loop .inv .0 .whole (goes .if2 .taken) in
+    search needs
+
+answered-requires : tie.Need-answered-requires Inv-loop μ-loop
+answered-requires c κs =
+    let goes = c .before .before .before .before in
+    (goes .before .before .before .loop .inv .0 .whole (goes .if2 .taken) .1, omega (arith, goes .before .if1 .taken))
+
+next-frame-requires-2 : tie.Need-next-frame-requires-2 Inv-loop μ-loop
+next-frame-requires-2 c κs =
+    let done = c .before .before .before .before in
+    let l = done .before .before .before .before .before .before .before .before in
+    let b = l .loop .inv .0 .behind in
+    record { unread = b .unread; read = b .read; waiting = search needs; room = search needs }
 
 loop-less : tie.Need-loop-less Inv-loop μ-loop
 loop-less c = search needs
 
 loop-again : tie.Need-loop-again Inv-loop μ-loop
 loop-again c =
-    let taken = c .before .before .before .before in
-    let test = taken .before .before .before in
-    let q = test .before .before .loop in
-    let n : 2 ^ 64 - 1 - (q .turns - 1) ≡ suc (2 ^ 64 - 1 - q .turns) = omega (arith, test .before .loop-test .taken) in
-    (search needs, search needs, search needs, search needs, rw n (turn (q .inv .4) (test .if1 .taken) (q .inv .0) (taken .turn .ensures .1)))
+    let next = c .before .before .before .before in
+    let done = next .before .before .before .before .before in
+    let goes = done .before .before .before .before .before in
+    let q = goes .before .before .before .loop in
+    let rises = done .answered .ensures .0 .1 .ordinal in
+    let below = goes .before .if1 .taken in
+    let low = q .inv .3 in
+    let n : done .answered .result .ordinal - 1 ≡ suc (q .s .ordinal - 1) = omega arith in (
+      next .next-frame2 .ensures .0,
+      search needs,
+      search needs,
+      omega arith,
+      omega arith,
+      one-more Controller Answered Puts startController (q .inv .5) (goes .if2 .taken) (q .inv .0) (done .answered .ensures .0 .1) (done .answered .ensures .1) (next .next-frame2 .ensures .1) _ n,
+    )
 
 flush-requires : tie.Need-flush-requires Inv-loop μ-loop
 flush-requires c κs = search needs
@@ -55,13 +103,21 @@ same-length-2 c = search needs
 returns : tie.Need-returns Inv-loop μ-loop
 returns c =
     let left = c .before .before in
-    let q = left .before .loop in (
+    let q = left .before .before .loop in
+    let begin = left .before .before .before .before .before .before .before in (
       search needs,
       record {
-        last = q .s;
-        turns = 2 ^ 64 - 1 - q .turns;
-        runs = q .inv .4;
-        over = ⊎-elim (λ w h. w .1 .left) (λ w h. absurd (omega (arith, w .left))) (left .loop-test .came);
+        begin = begin .next-frame .result;
+        held = _;
+        waiting = _;
+        awaited = begin .next-frame .ensures .1;
+        state = q .s;
+        places = q .p;
+        read = q .inv .5 .0;
+        answers = q .inv .5 .1;
+        frames = q .s .ordinal - 1;
+        runs = q .inv .5 .2;
+        over = ⊎-elim (λ w h. w .1 .left) (λ w h. absurd (omega (arith, w .left))) (left .if1 .came);
       },
     )
 
@@ -71,10 +127,15 @@ run-spec =
     (tie.spec
     Inv-loop
     μ-loop
-    start-requires
+    empty-requires
+    next-frame-requires
     loop-holds
-    sub-turns
-    turn-requires
+    add-content
+    sub-answered
+    part-answered-start
+    part-answered-end
+    answered-requires
+    next-frame-requires-2
     loop-less
     loop-again
     flush-requires

@@ -1,7 +1,10 @@
--- `frames::stream::ended` meets its contract: `room` tells where a line goes, and `bad frame` is put there.
+-- `frames::stream::ended` meets its contract: `room` tells where a line goes, and its test whether something is left.
 -- Assumes nothing.
 use borrow.Author.Needs.{needs}
+use borrow.Author.Tests.{le-ltb, lt-ltb}
 use mathlib.Core.Path.{refl}
+use native.Mathlib.Omega.{arith}
+use Prim.Native.Nat.{_-_}
 use Rattle.frames.proofs.stream.ended.Statement.{statement}
 use Rattle.frames.proofs.stream.ended.Tie as tie
 
@@ -16,11 +19,18 @@ same-length c = search needs
 
 returns : tie.Need-returns
 returns c =
-    let w = c .before .before .write-bad-frame in
-    let put = c .before .before .before .before .room in (
-      search needs,
-      record { from = refl; to = refl; goes-on = refl; put = rw (put .ensures .1) at (w .ensures .0) },
-    )
+    let w = c .before .before in
+    let test = w .before .before in
+    let start = test .before .before .before .before in
+    ((search needs, refl), rw (lt-ltb 0 (start .args .to - start .args .from) (omega (arith, test .if1 .taken)), ← test .before .room .ensures .1) (w .write-bad-frame .ensures .0))
+
+same-length-2 : tie.Need-same-length-2
+same-length-2 c = search needs
+
+returns-2 : tie.Need-returns-2
+returns-2 c =
+    let start = c .before .before .before .before in
+    ((search needs, refl), rw (le-ltb 0 (start .args .to - start .args .from) (omega (arith, c .if1 .left))) (c .before .room .ensures .1, refl))
 
 pub ended-spec : {M : Type 1} → statement M
-ended-spec = tie.close (tie.spec room-requires write-bad-frame-requires same-length returns)
+ended-spec = tie.close (tie.spec room-requires write-bad-frame-requires same-length returns same-length-2 returns-2)

@@ -1,11 +1,15 @@
--- `frames::stream::read_behind` meets its contract: the part that is lent to the read starts behind the bytes that stand there.
+-- `frames::stream::read_behind` meets its contract: the part that is lent to the read starts behind the bytes that were moved to the front.
 -- Assumes nothing.
 use borrow.Author.Needs.{needs}
 use borrow.Rule.Slice.PartMut.{take-put}
 use lib.ListN.{length}
 use Prim.Native.Nat.{_-_}
+use Rattle.frames.proofs.BufferLaws.{kept-front}
 use Rattle.frames.proofs.stream.read_behind.Statement.{statement}
 use Rattle.frames.proofs.stream.read_behind.Tie as tie
+
+keep-rest-requires : tie.Need-keep-rest-requires
+keep-rest-requires c κs = search needs
 
 sub-read : tie.Need-sub-read
 sub-read c = search needs
@@ -40,13 +44,20 @@ same-length c = search needs
 returns : tie.Need-returns
 returns c =
     let read = c .before .before .before .before .before in
-    let start = read .before .before .before in
-    (search needs, take-put (start .args .kept) (length (start .args .input .now) - start .args .kept) (start .args .input .now) (read .read .last .1 .0) (start .pre))
+    let keep = read .before .before .before .before in
+    let start = keep .before .before .before in
+    let a = start .args in
+    let e = keep .keep-rest .ensures .0 in (
+      search needs,
+      kept-front (a .input .now) (keep .keep-rest .last .0) _ (a .from) (a .to) (keep .keep-rest .result) (start .pre .0) (start .pre .1) e (keep .keep-rest .ensures .1)
+          (take-put (keep .keep-rest .result) (length (keep .keep-rest .last .0) - keep .keep-rest .result) (keep .keep-rest .last .0) (read .read .last .1 .0) (search needs)),
+    )
 
 pub read-behind-spec : {M : Type 1} → statement M
 read-behind-spec =
     tie.close
     (tie.spec
+    keep-rest-requires
     sub-read
     part-read-start
     part-read-end

@@ -1,17 +1,17 @@
--- `probe::printing::print_packed` is safe and ends. The invariant: the output ends inside its buffer, which keeps its length, and the place inside the image. The measure is what is left of the image.
+-- `probe::printing::print_all` is safe and ends. The invariant: the output ends inside its buffer, which keeps its length, and the place inside the bytes. The measure is what is left of them.
 -- Assumes nothing.
 use borrow.Author.Needs.{needs}
 use lib.ListN.{length}
 use mathlib.Core.Path.{_≡_}
 use Prim.Native.Nat.{_-_, _≤_}
-use Rattle.probe.proofs.printing.print_packed.Statement.{statement}
-use Rattle.probe.proofs.printing.print_packed.Tie as tie
+use Rattle.probe.proofs.printing.print_all.Statement.{statement}
+use Rattle.probe.proofs.printing.print_all.Tie as tie
 
 abbrev Inv-loop : tie.InvT-loop
-Inv-loop out₀ put image at₀ i₀ out at i = (at ≤ length out) × (length out ≡ length out₀) × (i ≤ length image)
+Inv-loop out₀ put bytes form at₀ i₀ out at i = (at ≤ length out) × (length out ≡ length out₀) × (i ≤ length bytes)
 
 abbrev μ-loop : tie.MeasureT-loop
-μ-loop out₀ put image at₀ i₀ out at i = length image - i
+μ-loop out₀ put bytes form at₀ i₀ out at i = length bytes - i
 
 least-requires : tie.Need-least-requires Inv-loop μ-loop
 least-requires c κs = search needs
@@ -19,8 +19,8 @@ least-requires c κs = search needs
 loop-holds : tie.Need-loop-holds Inv-loop μ-loop
 loop-holds c = search needs
 
-run-at-requires : tie.Need-run-at-requires Inv-loop μ-loop
-run-at-requires c κs = search needs
+run-in-requires : tie.Need-run-in-requires Inv-loop μ-loop
+run-in-requires c κs = search needs
 
 shared-slice-read-print-run : tie.Need-shared-slice-read-print-run Inv-loop μ-loop
 shared-slice-read-print-run c = search needs
@@ -43,15 +43,15 @@ same-length c = search needs
 returns : tie.Need-returns Inv-loop μ-loop
 returns c = search needs
 
-pub print-packed-spec : {M : Type 1} → statement M
-print-packed-spec =
+pub print-all-spec : {M : Type 1} → statement M
+print-all-spec =
     tie.close
     (tie.spec
     Inv-loop
     μ-loop
     least-requires
     loop-holds
-    run-at-requires
+    run-in-requires
     shared-slice-read-print-run
     print-run-requires
     add-i
