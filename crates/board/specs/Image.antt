@@ -24,16 +24,19 @@ use Rattle.timetable.specs.Timetable.{each, emptyTimetable, entryOf, noEntry}
 abbrev pub IMAGE : ℕ
 IMAGE = 273
 
--- The places of the transition's length and owners, of the base and of the entries.
+-- The transition's length stands here, behind the request slot.
 abbrev pub LENGTH-AT : ℕ
 LENGTH-AT = 8
 
+-- The owners stand from here on.
 abbrev pub OWNERS-AT : ℕ
 OWNERS-AT = 9
 
+-- The base stands here.
 abbrev pub BASE-AT : ℕ
 BASE-AT = 73
 
+-- The entries stand from here on.
 abbrev pub ENTRIES-AT : ℕ
 ENTRIES-AT = 81
 

@@ -31,7 +31,7 @@ use Rattle.records.specs.Written.{requestRecord}
 use Rattle.slots.specs.Below.{count}
 use Rattle.slots.specs.Clocks.{coreSlot, sliceCount}
 use Rattle.slots.specs.declared.CoreSlot.{CoreSlot}
-use Rattle.slots.specs.Limits.{IDS, LONGEST, WHOLE, AREA, LARGEST-BOUND, LARGEST-K, LAST-SLOT}
+use Rattle.slots.specs.Limits.{IDS, LONGEST, WHOLE, AREA, LARGEST-BOUND, LARGEST-K, LAST-SLOT, IDLE}
 use Rattle.slots.specs.Slots.{entitlement, supply, shortfall, Since, Listed, KeepsBound}
 use Rattle.timetable.specs.declared.Entry.{Entry}
 use Rattle.timetable.specs.declared.Timetable.{Timetable}
@@ -175,4 +175,4 @@ pub record Figures : Type 0 where
   pub numbers :
       (ACCEPTED ∷ NOT-SOUND ∷ SMALL-AREA ∷ BAD-FIELD ∷ OUT-OF-RANGE ∷ NOT-RISING ∷ TOO-EARLY ∷ OVERFULL ∷ BEHIND ∷ NO-SCHEDULE ∷ NOT-LISTED ∷ [])
       ≡ (0 ∷ 1 ∷ 2 ∷ 3 ∷ 4 ∷ 5 ∷ 6 ∷ 7 ∷ 8 ∷ 9 ∷ 10 ∷ [])
-  pub limits : (IDS ∷ LONGEST ∷ WHOLE ∷ AREA ∷ LARGEST-BOUND ∷ LARGEST-K ∷ LAST-SLOT ∷ []) ≡ (32 ∷ 64 ∷ 256 ∷ 231 ∷ 8 ∷ 8 ∷ 281474976710655 ∷ [])
+  pub limits : (IDS ∷ LONGEST ∷ WHOLE ∷ AREA ∷ LARGEST-BOUND ∷ LARGEST-K ∷ LAST-SLOT ∷ IDLE ∷ []) ≡ (32 ∷ 64 ∷ 256 ∷ 231 ∷ 8 ∷ 8 ∷ 281474976710655 ∷ 255 ∷ [])
