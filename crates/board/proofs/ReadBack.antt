@@ -5,7 +5,7 @@ use mathlib.Core.List.{List, [], _∷_, _++_, append-assoc, append-nil}
 use mathlib.Core.Path.{_≡_, sym, ap, _∙_}
 use native.Mathlib.Decide.{ℕ-discrete}
 use native.Mathlib.Omega.{arith}
-use Prim.Native.Nat.{ℕ, zero, suc, _+_, _*_, _^_, _≤_, _<_}
+use Prim.Native.Nat.{ℕ, zero, suc, _+_, _*_, _^_, _<_}
 use Rattle.board.proofs.StoreLaws.{entries-length}
 use Rattle.board.specs.Image.{BASE-AT, ENTRIES-AT, ENTRY, Fits, LENGTH-AT, OWNERS-AT, entriesAt, entriesBytes, entryAt, entryBytes, imageOf, timetableAt}
 use Rattle.records.proofs.FieldStands.{number-length, number-stands}

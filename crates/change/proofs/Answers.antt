@@ -26,7 +26,6 @@ use Rattle.records.specs.Request.{readRequest}
 use Rattle.slots.specs.Limits.{AREA, IDS}
 use Rattle.timetable.proofs.Run.{Continues}
 use Rattle.timetable.specs.declared.Timetable.{Timetable}
-use Rattle.timetable.specs.Sound.{isSound}
 use Rattle.timetable.specs.Timetable.{entryOf}
 use Rattle.transition.proofs.Search.{PassedFirst, Ended, found, missed, exhausted, search-ends}
 use Rattle.transition.specs.declared.Plan.{Plan}

@@ -7,14 +7,13 @@ use mathlib.Core.Option.{Option, none, some}
 use mathlib.Core.Path.{_≡_, refl, ap, ap₂}
 use native.Mathlib.Decide.{decLt}
 use native.Mathlib.Omega.{arith}
-use Prim.Native.Nat.{ℕ, suc, _*_, _≤_, _<_}
+use Prim.Native.Nat.{ℕ, suc, _*_, _<_}
 use Rattle.change.specs.Refused.{SoundStage, not-sound, sound, AreaStage, small-area, enough, FieldStage, bad-field, whole, EarlyStage, too-early, in-time}
 use Rattle.change.specs.Refused.{WeightStage, overfull, fits, Behind, BehindStage, behind, keep-up, FirstStages, ListedStages, StagesSay}
 use Rattle.change.specs.Stages as Stages
 use Rattle.change.specs.Stages.{startEntries, weightSum, isBehind, stageSound, stageArea, stageFields, stageEarly, stageOverfull, stageBehind, stagesFirst, stagesListed, verdictBefore}
 use Rattle.numbers.proofs.ChainLaws.{Tells, tells-from, stage-tells, last-tells, chains-tell}
 use Rattle.numbers.specs.Chain.{refusedAt, firstOf}
-use Rattle.numbers.specs.declared.Refusal.{Refusal}
 use Rattle.numbers.specs.declared.Verdict.{Verdict}
 use Rattle.numbers.specs.declared.Verdict.the-variants.{Passed, Refused}
 use Rattle.numbers.specs.Numbers.{NOT-SOUND, SMALL-AREA, TOO-EARLY, OVERFULL, BEHIND, refusal}
@@ -32,7 +31,7 @@ use Rattle.timetable.specs.Timetable.{entryOf, isListed}
 
 module _ (t : Timetable) where
   -- 1
-  pub sound-is : (v : Verdict) → SoundStage t v → stageSound t ≡ v
+  sound-is : (v : Verdict) → SoundStage t v → stageSound t ≡ v
   unfolding stageSound
   sound-is v (not-sound e) = rw e
   sound-is v (sound e) = rw e
@@ -46,7 +45,7 @@ module _ (t : Timetable) where
 
 module _ (area : ℕ) where
   -- 2
-  pub area-is : (v : Verdict) → AreaStage area v → stageArea area ≡ v
+  area-is : (v : Verdict) → AreaStage area v → stageArea area ≡ v
   unfolding stageArea
   area-is v (small-area l) = rw (lt-ltb area AREA l)
   area-is v (enough l) = rw (le-ltb area AREA l)
@@ -60,7 +59,7 @@ module _ (area : ℕ) where
 
 module _ (read : ReadRequest) where
   -- 3, 4 and 5
-  pub fields-is : (v : Verdict) → FieldStage read v → stageFields read ≡ v
+  fields-is : (v : Verdict) → FieldStage read v → stageFields read ≡ v
   unfolding stageFields
   fields-is v (bad-field r e) = rw e
   fields-is v (whole e) = rw e
@@ -74,7 +73,7 @@ module _ (read : ReadRequest) where
 
 module _ (t : Timetable) (q : Request) where
   -- 6
-  pub early-is : (v : Verdict) → EarlyStage t q v → stageEarly t q ≡ v
+  early-is : (v : Verdict) → EarlyStage t q v → stageEarly t q ≡ v
   unfolding stageEarly
   early-is v (too-early l) = rw (lt-ltb (q .slot .0) (t .base .0) l)
   early-is v (in-time l) = rw (le-ltb (q .slot .0) (t .base .0) l)
