@@ -1,4 +1,4 @@
--- A timetable as a C program keeps it: an image of 273 bytes, the fields in document 01's order, numbers high byte first.
+-- docs/RULES.md 10: a timetable as a C program keeps it, an image of 273 bytes, and what the functions in C tell and leave.
 use lib.Dec.{eqb}
 use lib.ListN.{drop, getD, length, replicate, take}
 use mathlib.Core.Bool.{Bool, cond}

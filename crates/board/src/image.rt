@@ -1,4 +1,4 @@
-// The image of a timetable: the fields in document 01's order, numbers high byte first. Nothing here is refused.
+// The image of a timetable: the fields in the order of docs/RULES.md 10.1, numbers high byte first. Nothing here is refused.
 ghost use lib.ListN.{drop, length, take};
 ghost use lib.Seq.{sets};
 ghost use mathlib.Core.Path.{_≡_};

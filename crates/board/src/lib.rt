@@ -1,4 +1,4 @@
-// The library as a C program on the board calls it. A timetable is an image of 273 bytes, and each function returns document 01's number.
+// The library as a C program on the board calls it. A timetable is an image of 273 bytes, and each function returns a number of docs/RULES.md 7.1.
 ghost use mathlib.Core.Path.{_≡_};
 ghost use Rattle.board.specs.Image.{Changed, OwnerTold, StandingTold, emptyImage, emptyNumber, imageOwner, imageStanding};
 use numbers::Refusal;

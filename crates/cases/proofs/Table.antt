@@ -1,4 +1,4 @@
--- The whole table holds: the definitions give what document 01 says, case by case. Assumes nothing.
+-- The whole table holds: the definitions give what docs/RULES.md 11 says, case by case. Assumes nothing.
 use mathlib.Core.Path.{refl}
 use native.Mathlib.Omega.{arith}
 use Rattle.cases.proofs.CaseE.{holds-E}

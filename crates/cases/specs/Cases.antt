@@ -1,4 +1,4 @@
--- Document 01, "Bench cases": the lettered ones, as one table of what is asked and what the definitions give.
+-- docs/RULES.md 11: the lettered bench cases, as one table of what is asked and what the definitions give.
 use lib.Dec.{eqb, ltb, leb}
 use lib.ListN.{length, replicate}
 use mathlib.Core.Bool.{false, cond, _||_, _&&_}
@@ -39,12 +39,12 @@ pub data Given : Type 0 where
   answered : Answer → List ℕ → Given
   figures : List ℕ → Given
 
--- A case: what is asked, and what document 01 says comes of it.
+-- A case: what is asked, and what the rules say comes of it.
 pub record Case : Type 0 where
   pub asked : Asked
   pub says : Given
 
--- An answer with its record.
+-- Helper of given: an answer with its record.
 unfoldable pub told : Answer → Given
 told a = answered a (recordOf a)
 
@@ -61,23 +61,23 @@ given (prints input) = figures (programLines input)
 
 -- ---- the parts of requests and timetables
 
--- The fields of a request slot below 256 and of T.
+-- Helper of cases: the fields of a request slot below 256 and of T.
 unfoldable pub head : ℕ → ℕ → List ℕ
 head slot limit = field 1 (0 ∷ 0 ∷ 0 ∷ 0 ∷ 0 ∷ 0 ∷ 0 ∷ slot ∷ []) ++ field 2 (limit ∷ [])
 
--- The field that lists an id with k and R.
+-- Helper of cases: the field that lists an id with k and R.
 unfoldable pub lists : ℕ → ℕ → ℕ → List ℕ
 lists id k bound = field 3 (id ∷ k ∷ bound ∷ [])
 
--- A frame.
+-- Helper of cases: a frame.
 unfoldable pub frame : List ℕ → List ℕ
 frame s = field 0x40 s
 
--- A listed entry.
+-- Helper of cases: a listed entry.
 abbrev pub entry : ℕ → ℕ → ℕ → ℕ → Entry
 entry period offset bound s = record { period = period; offset = offset; bound = bound; shortfall = s }
 
--- Ids 0 and 1 with k 2, R 1.
+-- Helper of cases: ids 0 and 1 with k 2, R 1.
 unfoldable pub pair : List ℕ
 pair = lists 0 2 1 ++ lists 1 2 1
 
@@ -93,7 +93,7 @@ requestB slot limit = head slot limit ++ pair ++ lists 2 1 2
 unfoldable pub requestE : ℕ → ℕ → List ℕ
 requestE slot limit = head slot limit ++ pair ++ lists 2 1 1
 
--- A timetable with one transition slot at most.
+-- Helper of cases: a timetable with one transition slot at most.
 unfoldable pub table : ℕ → ℕ → ℕ → List Entry → ℕ → Timetable
 table slot size owner es unlisted = record {
   request = coreSlot slot;
@@ -111,15 +111,15 @@ afterA = table 0 0 0 (entry 4 3 1 0 ∷ entry 4 2 1 0 ∷ []) 30
 unfoldable pub afterB : Timetable
 afterB = table 6 1 1 (entry 4 0 1 192 ∷ entry 4 2 1 0 ∷ entry 2 1 2 128 ∷ []) 29
 
--- An acceptance: its tries, timetable and record.
+-- Helper of cases: an acceptance: its tries, timetable and record.
 unfoldable pub accepted : ℕ → Timetable → List ℕ → Given
 accepted tries t bytes = answered (record { number = 0; place = 0; tries = tries; timetable = t }) bytes
 
--- A refusal: its number, place and tries, and the timetable as given.
+-- Helper of cases: a refusal: its number, place and tries, and the timetable as given.
 unfoldable pub refused : ℕ → ℕ → ℕ → Timetable → Given
 refused number place tries t = answered (record { number = number; place = place; tries = tries; timetable = t }) []
 
--- What is asked, with what document 01 says.
+-- Helper of cases: what is asked, with what the rules say.
 abbrev pub case : Asked → Given → Case
 case asked says = record { asked = asked; says = says }
 
@@ -143,7 +143,7 @@ unfoldable pub casesE : ℕ → List Case
 casesE zero = []
 casesE (suc limit) = case (change afterB (requestE 9 limit)) (refused 9 0 (triesE limit) afterB) ∷ casesE limit
 
--- Each case of a list holds: the definitions give what document 01 says.
+-- Each case of a list holds: the definitions give what the rules say.
 abbrev pub Hold : List Case → Type 0
 Hold [] = Unit {0}
 Hold (c ∷ cs) = (given (c .asked) ≡ c .says) × Hold cs
@@ -171,7 +171,7 @@ cases =
     ∷ case (change afterB (requestB 7 1))
     (accepted 1 (table 7 0 0 (entry 4 0 1 192 ∷ entry 4 2 1 0 ∷ entry 2 1 2 128 ∷ []) 29)
     (0x10 ∷ 0 ∷ 1 ∷ 0 ∷ 0x11 ∷ 0 ∷ 0 ∷ 0x12 ∷ 0 ∷ 2 ∷ 0 ∷ 0 ∷ 0x12 ∷ 0 ∷ 2 ∷ 1 ∷ 2 ∷ 0x12 ∷ 0 ∷ 2 ∷ 2 ∷ 1 ∷ []))
-    -- G: 001's figure 7
+    -- G: figure 7 of the 2021 paper
     ∷ case (walk runG 8) (figures (448 ∷ []))
     -- H: period 4, R 1 at shortfalls 0, 128 and 192; period 2, R 2 at 0
     ∷ case (rooms 4 1 0) (figures (3 ∷ 3 ∷ []))

@@ -1,1 +1,1 @@
-// The bench cases A to J of document 01.
+// The bench cases A to J of docs/RULES.md 11.

@@ -1,4 +1,4 @@
--- What the code's functions require of each other, in the definitions' words.
+-- Helpers of the contracts in src/answering.rt: what the code's functions require of each other, in the definitions' words.
 use mathlib.Core.Path.{_≡_}
 use Prim.Native.Nat.{ℕ, _≤_}
 use Rattle.change.specs.declared.Answer.{Answer}

@@ -1,4 +1,4 @@
--- A controller that starts empty and is sent requests: the timetables it accepts make its run of slots.
+-- docs/RULES.md 3.4: a controller that starts empty and is sent requests: the timetables it accepts make its run of slots.
 use lib.Dec.{eqb}
 use mathlib.Core.Bool.{cond}
 use mathlib.Core.List.{List, [], _∷_}

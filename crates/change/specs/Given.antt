@@ -1,4 +1,4 @@
--- Document 01, "The change" and "What each number says": what a request gets, said of the outcome and the area themselves, rule by rule. Nothing here searches.
+-- docs/RULES.md 4 and 7: what a request gets, said of the outcome and the area themselves, rule by rule. Nothing here searches.
 use lib.ListN.{getD, length}
 use mathlib.Core.List.{List}
 use mathlib.Core.Logic.{_⊎_}

@@ -1,4 +1,4 @@
--- Document 01: what each query gets, number by number in their order. A refused query returns zeros beside its number.
+-- docs/RULES.md 8: what each query gets, number by number in their order. A refused query returns zeros beside its number.
 use mathlib.Core.Bool.{true, false}
 use mathlib.Core.Path.{_≡_}
 use Prim.Native.Nat.{ℕ, _≤_, _<_}

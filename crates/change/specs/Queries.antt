@@ -1,4 +1,4 @@
--- Document 01: the owner query and the standing query.
+-- docs/RULES.md 8: the owner query and the standing query.
 use lib.Dec.{leb, ltb}
 use mathlib.Core.Bool.{cond, not}
 use Prim.Native.Nat.{ℕ}

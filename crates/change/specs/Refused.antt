@@ -1,4 +1,4 @@
--- Document 01, "What each number says": when each number is given before the search, and with which place. The lowest stage wins.
+-- docs/RULES.md 7.1 and 7.2: when each number is given before the search, and with which place. The lowest stage wins.
 use mathlib.Core.Bool.{true, false}
 use mathlib.Core.List.{List}
 use mathlib.Core.Path.{_≡_}

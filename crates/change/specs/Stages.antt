@@ -1,4 +1,4 @@
--- Document 01, "What each number says": the stages before the search, in their order. The lowest stage wins.
+-- docs/RULES.md 4.1, 7.1 and 7.2: the stages before the search, in their order. The lowest stage wins.
 use lib.Dec.{eqb, ltb}
 use lib.ListN.{replicate}
 use mathlib.Core.Bool.{Bool, cond, not, _&&_}

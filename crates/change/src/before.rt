@@ -1,4 +1,4 @@
-// The stages before the search, in document 01's order: an unsound timetable, a small area, the fields, then 6, 7 and 8. The lowest stage wins.
+// The stages before the search, in the order of docs/RULES.md 7.2: an unsound timetable, a small area, the fields, then 6, 7 and 8. The lowest stage wins.
 ghost use mathlib.Core.Bool.{true};
 ghost use mathlib.Core.Path.{_≡_};
 ghost use Prim.Native.Nat.{_≤_};

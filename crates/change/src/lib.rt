@@ -9,7 +9,7 @@ mod answering; // answering.rt: the answer after the search, and how it is writt
 pub mod queries; // queries.rt: the owner query and the standing query
 mod before; // before.rt: the stages before the search
 
-// What is decided of a request: document 01's number and place, the lengths searched, and the timetable in force from now on.
+// What is decided of a request: a number of docs/RULES.md 7.1 and its place, the lengths searched, and the timetable in force from now on.
 pub struct Answer {
     pub number: u8,
     pub place: usize,
@@ -41,7 +41,7 @@ pub struct StandingAnswer {
     pub slices: SliceCount,
 }
 
-// A timetable is changed by a request: the transition and cyclic slots of document 01's rules, written to the answer area, or a refusal that leaves both.
+// A timetable is changed by a request: the transition and cyclic slots of docs/RULES.md 4, written to the answer area, or a refusal that leaves both.
 pub fn change(t: Timetable, request: &[u8], area: &mut [u8]) -> Outcome
     ensures { λ r. ⌜ (r ≡ outcome t (now (request .entry)) (now (area .entry))) × (now (area .exit) ≡ areaAfter t (now (request .entry)) (now (area .entry))) ⌝ }
 {

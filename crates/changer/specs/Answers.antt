@@ -1,4 +1,4 @@
--- What the program starts with, and what a request gives.
+-- docs/RULES.md 9.2 and 9.3: what the program starts with, and what a request gives.
 use mathlib.Core.List.{List}
 use mathlib.Core.Path.{_≡_}
 use Prim.Native.Nat.{ℕ, suc, _-_, _^_}

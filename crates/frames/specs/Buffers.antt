@@ -1,4 +1,4 @@
--- Where a program stands in its two buffers, and what stands next in its input.
+-- Helpers of the contracts in src/stream.rt: where a program stands in its two buffers, and what stands next in its input.
 use lib.Dec.{leb, ltb}
 use lib.ListN.{drop, getD, length, take}
 use mathlib.Core.Bool.{Bool, true, false, cond}

@@ -1,4 +1,4 @@
--- What the code over frames and lines answers, in the words of Program: a frame's first three bytes, and a text put into a buffer.
+-- Helpers of the contracts in src/: what the code over frames and lines answers, in the words of Program: a frame's first three bytes, and a text put into a buffer.
 use lib.Dec.{eqb, leb}
 use lib.ListN.{length}
 use lib.Seq.{sets}

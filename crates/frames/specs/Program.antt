@@ -1,4 +1,4 @@
--- Document 01, "The program": frames of requests in, a line per request out.
+-- docs/RULES.md 9, the program: frames of requests in, a line per request out.
 use lib.Dec.{eqb, leb, ltb}
 use lib.ListN.{drop, getD, length, take}
 use mathlib.Core.Bool.{Bool, true, false, cond, not, _&&_}
@@ -32,7 +32,7 @@ frameContent s = take (lengthAt s 0) (drop 3 s)
 unfoldable pub frameRest : List ℕ → List ℕ
 frameRest s = drop (3 + lengthAt s 0) s
 
--- A number in decimal, as bytes of text, of at most as many digits as given.
+-- Helper of decimal: a number in decimal, as bytes of text, of at most as many digits as given.
 unfoldable pub digits : ℕ → ℕ → List ℕ
 digits zero n = []
 digits (suc most) n = elim (ltb n 10) [ true ↦ (48 + n) ∷ [] | false ↦ digits most (n / 10) ++ ((48 + n % 10) ∷ []) ]

@@ -1,4 +1,4 @@
--- A run of a program over frames, for any program: what the content of a frame gives from a state of it, and how a text is put into the output.
+-- docs/RULES.md 9.6: a run of a program over frames, for any program: what the content of a frame gives from a state of it, and how a text is put into the output.
 use lib.ListN.{length}
 use mathlib.Core.Bool.{true, false}
 use mathlib.Core.List.{List, [], _++_}

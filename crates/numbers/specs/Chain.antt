@@ -1,4 +1,4 @@
--- Document 01, "What each number says": a chain of stages. The first refusal wins.
+-- docs/RULES.md 7.2: a chain of stages. The first refusal wins.
 use mathlib.Core.Bool.{Bool, cond}
 use mathlib.Core.List.{List, [], _∷_}
 use mathlib.Core.Option.{Option, none, some}
@@ -8,16 +8,16 @@ use Rattle.numbers.specs.declared.Verdict.{Verdict}
 use Rattle.numbers.specs.declared.Verdict.the-variants.{Passed, Refused}
 use Rattle.numbers.specs.Numbers.{refusal}
 
--- A stage that refuses where its test says so, with place 0.
+-- Helper of stageSound: a stage that refuses where its test says so, with place 0.
 abbrev pub refusedIf : Bool → ℕ → Verdict
 refusedIf test number = cond test (Refused (refusal number 0)) Passed
 
--- A stage that refuses an id, if it names one.
+-- Helper of stageOverfull: a stage that refuses an id, if it names one.
 unfoldable pub refusedAt : ℕ → Option ℕ → Verdict
 refusedAt number none = Passed
 refusedAt number (some i) = Refused (refusal number i)
 
--- What a stage says, or where it is passed those after it.
+-- Helper of firstOf: what a stage says, or where it is passed those after it.
 unfoldable pub orElse : Verdict → Verdict → Verdict
 orElse Passed next = next
 orElse (Refused r) next = Refused r

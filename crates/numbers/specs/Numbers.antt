@@ -1,4 +1,4 @@
--- Document 01, "What each number says": the numbers by name, and a refusal.
+-- docs/RULES.md 7.1: the numbers by name, and a refusal.
 use Prim.Native.Nat.{ℕ}
 use Rattle.numbers.specs.declared.Refusal.{Refusal}
 

@@ -2,7 +2,7 @@
 ghost use mathlib.Core.Path.{_≡_};
 ghost use Rattle.numbers.specs.Numbers.{refusal};
 
-// Why something was refused: document 01's number and place.
+// Why something was refused: a number of docs/RULES.md 7.1 and its place.
 pub struct Refusal {
     pub number: u8,
     pub place: usize,

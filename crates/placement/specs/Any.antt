@@ -1,4 +1,4 @@
--- Document 01, demand 3: any cyclic placement at all, defined from the slots alone and without rule 4.
+-- docs/RULES.md 5: any cyclic placement at all, defined from the slots alone and without rule 4.
 use mathlib.Core.Bool.{true}
 use mathlib.Core.List.{List}
 use mathlib.Core.Logic.{_≢_}
@@ -8,11 +8,11 @@ use Rattle.slots.specs.Limits.{IDS, WHOLE}
 use Rattle.timetable.specs.declared.Entry.{Entry}
 use Rattle.timetable.specs.Timetable.{entryOf, isListed, withOffset, cyclic, shortfallAfter}
 
--- i is an id that the entries list.
+-- Helper of CyclicPlacement: i is an id that the entries list.
 abbrev pub Lists : List Entry → ℕ → Type 0
 Lists es i = (i < IDS) × (isListed (entryOf es i) ≡ true)
 
--- The entry of id i at a chosen offset.
+-- Helper of CyclicPlacement: the entry of id i at a chosen offset.
 abbrev pub chosen : List Entry → (ℕ → ℕ) → ℕ → Entry
 chosen es offsets i = withOffset (offsets i) (entryOf es i)
 

@@ -1,4 +1,4 @@
--- The cyclic placement as the code answers it, and what the code's parts say: a demand as one number, the taken slots as a table.
+-- Helpers of the contracts in src/: the cyclic placement as the code answers it, and what the code's parts say: a demand as one number, the taken slots as a table.
 use lib.Dec.{ltb}
 use lib.ListN.{getD, length, take}
 use mathlib.Core.Bool.{true, false}

@@ -1,4 +1,4 @@
--- Document 01, "The change", rule 4: the cyclic placement.
+-- docs/RULES.md 4.4, rule 4: the cyclic placement.
 use lib.Dec.{eqb, ltb}
 use lib.ListN.{set}
 use mathlib.Core.Bool.{Bool, true, false, cond, not, _&&_, _||_}
@@ -22,7 +22,7 @@ pub record Place : Type 0 where
   pub period : ℕ
   pub offset : ℕ
 
--- The demand of id i.
+-- Helper of ordered: the demand of id i.
 unfoldable pub demandOf : List Entry → ℕ → Demand
 demandOf es i = record { id = i; period = entryOf es i .period; last = lastOffset (entryOf es i) }
 
@@ -32,7 +32,7 @@ comesBefore d f =
     ltb (d .period) (f .period)
     || (eqb (d .period) (f .period) && (ltb (d .last) (f .last) || (eqb (d .last) (f .last) && ltb (d .id) (f .id))))
 
--- A demand put in its place among those in order.
+-- Helper of ordered: a demand put in its place among those in order.
 unfoldable pub insert : Demand → List Demand → List Demand
 insert d [] = d ∷ []
 insert d (f ∷ fs) = elim (comesBefore d f) [ true ↦ d ∷ f ∷ fs | false ↦ f ∷ insert d fs ]
@@ -42,7 +42,7 @@ unfoldable pub ordered : List Entry → ℕ → List Demand
 ordered es zero = []
 ordered es (suc n) = elim (isListed (entryOf es n)) [ true ↦ insert (demandOf es n) (ordered es n) | false ↦ ordered es n ]
 
--- Whether the slot n slots after the base is taken by one of the places.
+-- Helper of allFree: whether the slot n slots after the base is taken by one of the places.
 unfoldable pub isTaken : List Place → ℕ → Bool
 isTaken [] n = false
 isTaken (p ∷ ps) n = eqb (n % p .period) (p .offset) || isTaken ps n

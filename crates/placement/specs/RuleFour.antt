@@ -1,4 +1,4 @@
--- Document 01, "The change", rule 4, said of the offsets themselves: no search and no list of places.
+-- docs/RULES.md 4.4, rule 4, said of the offsets themselves: no search and no list of places.
 use mathlib.Core.Bool.{true}
 use mathlib.Core.List.{List}
 use mathlib.Core.Logic.{_⊎_}

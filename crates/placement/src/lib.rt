@@ -1,4 +1,4 @@
-// Cyclic placement: rule 4 of document 01. Each listed partition, in order, takes the largest free offset up to its last offset.
+// Cyclic placement: rule 4, docs/RULES.md 4.4. Each listed partition, in order, takes the largest free offset up to its last offset.
 ghost use mathlib.Core.Bool.{true};
 ghost use mathlib.Core.Path.{_≡_};
 ghost use Prim.Native.Nat.{_<_};

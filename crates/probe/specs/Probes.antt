@@ -1,4 +1,4 @@
--- The probe's run: every frame is answered in turn; what its line tells is left to the comparison.
+-- docs/RULES.md 9.6, the probe's run: every frame is answered in turn; what its line tells is left to the comparison.
 use mathlib.Core.List.{List}
 use Prim.Native.Nat.{ℕ, _-_, _^_}
 use Rattle.frames.specs.Runs.{Ran}

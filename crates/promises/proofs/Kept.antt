@@ -125,7 +125,7 @@ placement-complete = record {
 
 -- ---- 5 and 6
 
--- A refusal that document 01 gives before the search is the outcome.
+-- A refusal that the rules give before the search is the outcome.
 refused-so : (t : Timetable) (s area : List ℕ) (read : ReadRequest) → RequestRead s read → (x : Refusal) → StagesSay t read (length area) (Refused x)
     → (outcome t s area ≡ refusedWith t (x .number) (x .place) 0) × (areaAfter t s area ≡ area)
 refused-so t s area read e x p =

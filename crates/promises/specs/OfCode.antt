@@ -1,4 +1,4 @@
--- Demands 1 to 3, of the code: of whatever meets the contract of `change` or of a query, and of a controller that is made of such calls.
+-- docs/RULES.md 1.4 to 1.7, demands 1 to 3 of the code: of whatever meets the contract of `change` or of a query, and of a controller that is made of such calls.
 use lib.ListN.{length}
 use mathlib.Core.Bool.{true}
 use mathlib.Core.List.{List, [], _∷_}
@@ -42,7 +42,7 @@ pub data Serves : History → Type 0 where
   refuses : (h : History) → Serves h → (s area : List ℕ) (r : Outcome) (out : List ℕ) → Meets (present h) s area r out → r .number ≢ ACCEPTED
       → Serves h
 
--- Demand 1: whenever document 01 gives a refusal before the search, the code gives its number and its place, and every number but 0 and 9 is such a refusal;
+-- Demand 1: whenever the rules give a refusal before the search, the code gives its number and its place, and every number but 0 and 9 is such a refusal;
 -- no refusal touches a byte of the area or the timetable; an acceptance is sound.
 pub record DemandOne : Type 0 where
   pub given : (t : Timetable) (s area : List ℕ) (r : Outcome) (out : List ℕ) → Meets t s area r out
@@ -76,7 +76,7 @@ pub record DemandThree : Type 0 where
 abbrev pub DeficitMeans : Type 0
 DeficitMeans = (h : History) → Serves h → ShortfallMeans h
 
--- The queries: each answers or refuses as document 01 says, with zeros beside a refusal, and leaves one answer; what it answers of a controller's
+-- The queries: each answers or refuses as the rules say, with zeros beside a refusal, and leaves one answer; what it answers of a controller's
 -- timetable is the run's owner, and the run's shortfall and supply.
 pub record QueriesOfCode : Type 0 where
   pub owner : (t : Timetable) (x : CoreSlot) (r : OwnerAnswer) → (r ≡ ownerQuery t x) ↔ OwnerGiven t x r

@@ -1,4 +1,4 @@
--- The promises of document 01, as statements about the definitions. Each speaks of the slots and of document 01's rules, never of how something is
+-- docs/RULES.md 1.4 to 1.7: the promises, as statements about the definitions. Each speaks of the slots and of the rules, never of how something is
 -- computed; proofs/Kept.antt proves each under its name. Two wrong programs that a promise shuts out stand under it.
 use lib.ListN.{getD, length}
 use mathlib.Core.Bool.{true}
@@ -105,7 +105,7 @@ pub record Tries : Type 0 where
       → outcome t s area .tries ≡ count (suc (readRequest s .request .limit)) (isSearched (startPlan t (readRequest s .request)))
   pub few : (t : Timetable) (s area : List ℕ) → Passes t s (length area) → outcome t s area .tries ≤ suc (readRequest s .request .limit)
 
--- 7. Whenever document 01 gives a refusal before the search, the outcome has its number and its place, no tries, no bytes and the timetable as given, and
+-- 7. Whenever the rules give a refusal before the search, the outcome has its number and its place, no tries, no bytes and the timetable as given, and
 -- the area is untouched; and every outcome with a number but 0 and 9 is such a refusal. The lowest stage wins, fields from left to right, and within a field
 -- 3, then 4, then 5. (Shuts out: places told modulo 10; numbers 1 to 5 all told as 6; an overfull listing refused before its fields are read.)
 pub record Stages : Type 0 where
@@ -164,13 +164,13 @@ pub record Queries : Type 0 where
   pub standing : (t : Timetable) (i : ℕ) (x : CoreSlot) → StandingGiven t i x (standingQuery t i x)
   pub standing-only : (t : Timetable) (i : ℕ) (x : CoreSlot) (r : StandingAnswer) → StandingGiven t i x r → standingQuery t i x ≡ r
 
--- 11. Every outcome, with the area afterwards, is what document 01's rules give, said of the outcome itself; and those rules, so said, leave one outcome and
+-- 11. Every outcome, with the area afterwards, is what the rules give, said of the outcome itself; and those rules, so said, leave one outcome and
 -- one content of the area. (Shuts out: a short field taken as R 2; ties to the higher id; 231 bytes told for every acceptance.)
 pub record Exact : Type 0 where
   pub given : (t : Timetable) (s area : List ℕ) → Gives t s area (outcome t s area) (areaAfter t s area)
   pub one : (t : Timetable) (s area : List ℕ) (r r′ : Outcome) (out out′ : List ℕ) → Gives t s area r out → Gives t s area r′ out′ → (r ≡ r′) × (out ≡ out′)
 
--- 12. The names of the numbers and of the limits stand for document 01's figures. (Shuts out: two numbers changed for each other; a T of 65.)
+-- 12. The names of the numbers and of the limits stand for the figures of docs/RULES.md 3.3 and 7.1. (Shuts out: two numbers changed for each other; a T of 65.)
 pub record Figures : Type 0 where
   pub numbers :
       (ACCEPTED ∷ NOT-SOUND ∷ SMALL-AREA ∷ BAD-FIELD ∷ OUT-OF-RANGE ∷ NOT-RISING ∷ TOO-EARLY ∷ OVERFULL ∷ BEHIND ∷ NO-SCHEDULE ∷ NOT-LISTED ∷ [])

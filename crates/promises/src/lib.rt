@@ -1,1 +1,1 @@
-// The promises of document 01: statements in specs/, their proofs in proofs/.
+// The promises, docs/RULES.md 1.4 to 1.7: statements in specs/, their proofs in proofs/.

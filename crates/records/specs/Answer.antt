@@ -1,4 +1,4 @@
--- Document 01, "Records": writing an answer.
+-- docs/RULES.md 6.7: writing an answer.
 use lib.ListN.{length, take}
 use mathlib.Core.Bool.{cond}
 use mathlib.Core.List.{List, [], _∷_, _++_}

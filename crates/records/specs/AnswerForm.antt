@@ -1,4 +1,4 @@
--- Document 01, "Records": the answer as it stands in the area, field by field at its place. It says nothing of how it is written.
+-- docs/RULES.md 6.7: the answer as it stands in the area, field by field at its place. It says nothing of how it is written.
 use lib.ListN.{getD, length}
 use mathlib.Core.Bool.{true}
 use mathlib.Core.List.{List, [], _∷_}
@@ -13,7 +13,7 @@ use Rattle.timetable.specs.Timetable.{entryOf, isListed}
 abbrev pub Stand : List ℕ → ℕ → List ℕ → Type 0
 Stand area at bytes = (k : ℕ) → k < length bytes → getD area (at + k) 0 ≡ getD bytes k 0
 
--- How many ids below n are listed.
+-- Helper of AnswerStands: how many ids below n are listed.
 abbrev pub listedBelow : List Entry → ℕ → ℕ
 listedBelow es n = count n (λ i. isListed (entryOf es i))
 

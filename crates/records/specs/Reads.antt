@@ -1,4 +1,4 @@
--- Document 01, "Records" and "What each number says": when a field is read and when it is refused, and what is read, as statements.
+-- docs/RULES.md 6 and 7.1: when a field is read and when it is refused, and what is read, as statements.
 use lib.ListN.{getD, length, set}
 use mathlib.Core.Bool.{Bool, true, false, _&&_}
 use mathlib.Core.List.{List}

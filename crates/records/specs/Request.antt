@@ -1,4 +1,4 @@
--- Document 01, "Records": reading a request, left to right. Reading knows nothing of the timetable.
+-- docs/RULES.md 6.1 to 6.6: reading a request, left to right. Reading knows nothing of the timetable.
 use lib.Dec.{eqb, leb, ltb}
 use lib.ListN.{getD, length, replicate, set}
 use mathlib.Core.Bool.{Bool, true, false, cond, _&&_}
@@ -72,7 +72,7 @@ listedField s at floor =
 abbrev pub noAsk : Ask
 noAsk = record { period = 0; bound = 0 }
 
--- What a request asks for id i.
+-- Helper of startEntries: what a request asks for id i.
 abbrev pub askOf : List Ask → ℕ → Ask
 askOf asks i = getD asks i noAsk
 
@@ -80,7 +80,7 @@ askOf asks i = getD asks i noAsk
 abbrev pub isAsked : Ask → Bool
 isAsked a = ltb 0 (a .period)
 
--- A listing that asks for nothing.
+-- Helper of readRequest: a listing that asks for nothing.
 abbrev pub noAsks : List Ask
 noAsks = replicate IDS noAsk
 
@@ -102,7 +102,7 @@ readListing (suc most) s end at floor asks =
 unfoldable pub refusedRequest : Refusal → ReadRequest
 refusedRequest r = record { reading = Refused r; request = record { slot = coreSlot 0; limit = 0; asks = noAsks } }
 
--- The request slot and T with the listing that was read, or its refusal.
+-- Helper of readRequest: the request slot and T with the listing that was read, or its refusal.
 unfoldable pub withListing : CoreSlot → ℕ → Listing → ReadRequest
 withListing slot limit listing =
     elim (listing .reading) [

@@ -1,4 +1,4 @@
--- Document 01, "Records": a request as it is written, for the law that a request has one form only.
+-- docs/RULES.md 6.5: a request as it is written, for the law that a request has one form only.
 use lib.Dec.{eqb}
 use mathlib.Core.Bool.{cond}
 use mathlib.Core.List.{List, [], _∷_, _++_}
@@ -16,7 +16,7 @@ unfoldable pub numberBytes : ℕ → ℕ → List ℕ
 numberBytes n zero = []
 numberBytes n (suc count) = numberBytes (n / 256) count ++ (n % 256 ∷ [])
 
--- The k of a period 2^k.
+-- Helper of listedBytes: the k of a period 2^k.
 unfoldable pub exponentOf : ℕ → ℕ
 exponentOf period = elim (first (suc LARGEST-K) (λ k. eqb period (2 ^ k))) [ none ↦ 0 | some k ↦ k ]
 

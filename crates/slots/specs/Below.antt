@@ -1,4 +1,4 @@
--- Questions about the numbers below a number: ids, slots of a cycle, places of a list.
+-- Helpers of the definitions of every layer: questions about the numbers below a number: ids, slots of a cycle, places of a list.
 use mathlib.Core.Bool.{Bool, true, cond, _&&_}
 use mathlib.Core.Option.{Option, none, some}
 use Prim.Native.Nat.{ℕ, zero, suc, _+_}

@@ -1,4 +1,4 @@
--- Document 01's two clocks, from 001: slots of the core, and slices that one partition has had. Neither is read as the other.
+-- docs/RULES.md 2.8, the two clocks: slots of the core, and slices that one partition has had. Neither is read as the other.
 use Prim.Native.Nat.{ℕ}
 use Rattle.slots.specs.declared.CoreSlot.{CoreSlot}
 use Rattle.slots.specs.declared.SliceCount.{SliceCount}

@@ -1,4 +1,4 @@
--- The numeric limits of document 01, named once.
+-- docs/RULES.md 3.3: the numeric limits, named once.
 use Prim.Native.Nat.{ℕ, _-_, _^_}
 
 -- A slot is counted in 256ths, and every period divides this many slots.

@@ -1,4 +1,4 @@
--- Document 01, "Slots, shares and shortfall": the figures of one partition, in 256ths of a slot.
+-- docs/RULES.md 2.2 to 2.7: the figures of one partition, in 256ths of a slot.
 use mathlib.Core.Bool.{Bool, cond}
 use Prim.Native.Nat.{ℕ, _+_, _-_, _*_, _/_, min}
 use lib.Dec.{ltb}

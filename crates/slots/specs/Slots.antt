@@ -1,4 +1,4 @@
--- The slot layer: what a run of slots is, and what entitlement, supply and shortfall mean over it (001, definitions 4.2 to 4.4).
+-- docs/RULES.md 2, the slot layer: what a run of slots is, and what entitlement, supply and shortfall mean over it (definitions 4.2 to 4.4 of the 2021 paper).
 -- Nothing here knows of timetables, requests or rules. The lab's "deficit" is the shortfall below, and nothing else.
 use mathlib.Core.Bool.{Bool, true, false, cond}
 use mathlib.Core.Option.{Option, none, some}
@@ -23,7 +23,7 @@ pub record Slot : Type 0 where
 abbrev pub Run : Type 0
 Run = ℕ → Slot
 
--- Whether an owner, or none, is the id i.
+-- Helper of own: whether an owner, or none, is the id i.
 unfoldable pub isOwner : ℕ → Option ℕ → Bool
 isOwner i none = false
 isOwner i (some j) = eqb i j
@@ -32,7 +32,7 @@ isOwner i (some j) = eqb i j
 unfoldable pub own : Run → ℕ → ℕ → Bool
 own run i t = isOwner i (run t .owner)
 
--- One slot of supply, or none.
+-- Helper of supply: one slot of supply, or none.
 unfoldable pub one : Bool → ℕ
 one true = 1
 one false = 0

@@ -1,4 +1,4 @@
-// The two clocks of source document 001, as two types: neither can be read as the other.
+// The two clocks of docs/RULES.md 2.8, as two types: neither can be read as the other.
 
 // A slot of the core, by its number, counted from 0.
 pub struct CoreSlot(pub u64);

@@ -1,4 +1,4 @@
--- The run of slots that the accepted timetables make, the empty one first in force.
+-- docs/RULES.md 3.4 and 2.6: the run of slots that the accepted timetables make, the empty one first in force.
 use lib.Dec.{eqb, leb}
 use mathlib.Core.Bool.{Bool, false, cond, not, _&&_, _||_}
 use mathlib.Core.List.{List, [], _∷_}

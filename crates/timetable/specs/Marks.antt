@@ -1,4 +1,4 @@
--- The marks of the slots of one cycle, as a table of the code holds them. How a slot's mark is held is known here, in the laws of one mark
+-- Helpers of the contracts here and in the placement: the marks of the slots of one cycle, as a table of the code holds them. How a slot's mark is held is known here, in the laws of one mark
 -- (proofs/Marks.antt), and where the code reads or writes one.
 use lib.ListN.{getD, length, replicate, set}
 use mathlib.Core.Bool.{Bool, true, false}

@@ -1,4 +1,4 @@
--- The number with which the owner query answers.
+-- docs/RULES.md 8.1: the number with which the owner query answers.
 use mathlib.Core.Option.{Option, none, some}
 use Prim.Native.Nat.{ℕ}
 use Rattle.slots.specs.Limits.{IDLE}

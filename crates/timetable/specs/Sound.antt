@@ -1,4 +1,4 @@
--- Document 01, "Sound means", clause by clause. It shares nothing with the placement search.
+-- docs/RULES.md 3.5 to 3.12: what sound means, clause by clause. It shares nothing with the placement search.
 use lib.Dec.{eqb, leb, ltb}
 use lib.ListN.{getD}
 use mathlib.Core.Bool.{Bool, cond, not, _&&_, _||_}

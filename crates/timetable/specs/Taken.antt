@@ -1,4 +1,4 @@
--- The slots of one cycle that are taken, as the soundness test looks at them.
+-- Helpers of the contracts in src/soundness.rt: the slots of one cycle that are taken, as the soundness test looks at them.
 use mathlib.Core.Bool.{Bool, true, not, _&&_, _||_}
 use mathlib.Core.Path.{_≡_}
 use Prim.Native.Nat.{ℕ, _<_}

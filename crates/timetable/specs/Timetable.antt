@@ -1,4 +1,4 @@
--- Document 01, "The timetable": what it holds, and whom a slot serves.
+-- docs/RULES.md 3.1 to 3.3: what it holds, and whom a slot serves.
 use lib.Dec.{eqb, ltb}
 use lib.ListN.{getD, replicate, set}
 use mathlib.Core.Bool.{Bool, cond, _&&_}
@@ -33,16 +33,16 @@ emptyTimetable = record {
 abbrev pub entryOf : List Entry → ℕ → Entry
 entryOf entries i = getD entries i noEntry
 
--- f put in the place of each of the first n entries, by its id and the entry.
+-- Helper of startEntries: f put in the place of each of the first n entries, by its id and the entry.
 unfoldable pub each : (ℕ → Entry → Entry) → ℕ → List Entry → List Entry
 each f zero entries = entries
 each f (suc n) entries = set (each f n entries) n (f n (entryOf entries n))
 
--- An entry with another offset.
+-- Helper of settle: an entry with another offset.
 abbrev pub withOffset : ℕ → Entry → Entry
 withOffset o e = record { period = e .period; offset = o; bound = e .bound; shortfall = e .shortfall }
 
--- An entry with another shortfall.
+-- Helper of overAll: an entry with another shortfall.
 abbrev pub withShortfall : ℕ → Entry → Entry
 withShortfall s e = record { period = e .period; offset = e .offset; bound = e .bound; shortfall = s }
 

@@ -1,4 +1,4 @@
--- The code's answers of the transition, in the definitions' words.
+-- Helpers of the contracts in src/: the code's answers of the transition, in the definitions' words.
 use lib.Dec.{ltb}
 use mathlib.Core.Bool.{Bool, true, false, not, _||_}
 use mathlib.Core.Option.{Option, none, some}

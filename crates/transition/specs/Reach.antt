@@ -1,4 +1,4 @@
--- Demand 3's words about lengths: which are reached, which are passed over, which can't be reached, and which were searched.
+-- docs/RULES.md 5.2 and 5.3, demand 3's words about lengths: which are reached, which are passed over, which can't be reached, and which were searched.
 use mathlib.Core.Bool.{Bool, true, false, _&&_}
 use mathlib.Core.List.{List}
 use mathlib.Core.Option.{Option, none, some}
@@ -15,7 +15,7 @@ use Rattle.timetable.specs.Timetable.{entryOf, weight}
 use Rattle.transition.specs.declared.Plan.{Plan}
 use Rattle.transition.specs.Transition.{longer}
 
--- The plan after k more transition slots by the urgent rule, the first of them number n; none where one was missed.
+-- Helper of reach: the plan after k more transition slots by the urgent rule, the first of them number n; none where one was missed.
 unfoldable pub reachFrom : ℕ → ℕ → Plan → Option Plan
 reachFrom zero n plan = some plan
 reachFrom (suc k) n plan = elim (longer n plan) [ none ↦ none | some next ↦ reachFrom k (suc n) next ]
@@ -43,17 +43,17 @@ HasPlacement plan n = (p : Plan) × (reach plan n ≡ some p) × ((offsets : ℕ
 abbrev pub CannotReach : Plan → ℕ → Type 0
 CannotReach plan n = (k : ℕ) × (k < n) × (p : Plan) × (reach plan k ≡ some p) × AnyoneBreaks (p .entries)
 
--- Rule 4 gave no placement.
+-- Helper of isSearched: rule 4 gave no placement.
 unfoldable pub isNone : Option (List Place) → Bool
 isNone none = true
 isNone (some ps) = false
 
--- A plan is reached and rule 4 gives it no placement.
+-- Helper of isSearched: a plan is reached and rule 4 gives it no placement.
 unfoldable pub hasNone : Option Plan → Bool
 hasNone none = false
 hasNone (some p) = isNone (placement (p .entries))
 
--- A length is reached.
+-- Helper of isSearched: a length is reached.
 unfoldable pub isReached : Option Plan → Bool
 isReached none = false
 isReached (some p) = true

@@ -1,4 +1,4 @@
--- Document 01, "The change", rule 3, said of the owners themselves: whom each transition slot serves, "there" being walked slot by slot. No search.
+-- docs/RULES.md 4.3, rule 3, said of the owners themselves: whom each transition slot serves, "there" being walked slot by slot. No search.
 use lib.ListN.{getD}
 use mathlib.Core.Bool.{true}
 use mathlib.Core.List.{List}

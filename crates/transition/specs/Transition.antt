@@ -1,4 +1,4 @@
--- Document 01, "The change", rules 2 and 3: the search of lengths, one transition slot after the other.
+-- docs/RULES.md 4.2 and 4.3, rules 2 and 3: the search of lengths, one transition slot after the other.
 use lib.Dec.{eqb, ltb}
 use lib.ListN.{set}
 use mathlib.Core.Bool.{Bool, true, false, cond, not, _||_}
@@ -30,7 +30,7 @@ mostUrgent es (suc n) = elim (isListed (entryOf es n)) [ true ↦ moreUrgent es 
 unfoldable pub isMissed : List Entry → ℕ → Bool
 isMissed es u = not (every IDS (λ i. eqb i u || not (isListed (entryOf es i)) || ltb 0 (room (entryOf es i))))
 
--- An entry over one slot, its own or not.
+-- Helper of overAll: an entry over one slot, its own or not.
 abbrev pub overEntry : Bool → Entry → Entry
 overEntry own e = withShortfall (overSlot own (weight e) (e .shortfall)) e
 
@@ -48,15 +48,15 @@ longer n plan =
           (some (record { owners = set (plan .owners) n u; entries = overAll (plan .entries) u }))
     ]
 
--- A length whose search ended the search of lengths.
+-- Helper of searchFrom: a length whose search ended the search of lengths.
 unfoldable pub ended : Ending → Plan → Searched
 ended ending plan = record { ending = ending; tries = 1; plan = plan }
 
--- A length that was passed over, before the others.
+-- Helper of searchFrom: a length that was passed over, before the others.
 unfoldable pub passed : Searched → Searched
 passed s = record { ending = s .ending; tries = suc (s .tries); plan = s .plan }
 
--- The plan with its offsets placed.
+-- Helper of searchFrom: the plan with its offsets placed.
 unfoldable pub placed : Plan → List Place → Plan
 placed plan ps = record { owners = plan .owners; entries = settle (plan .entries) ps }
 

@@ -1,4 +1,4 @@
-// The transition: rules 2 and 3 of document 01. Lengths are searched one after the other; each further slot goes to the most urgent. Nothing here is refused.
+// The transition: rules 2 and 3, docs/RULES.md 4.2 and 4.3. Lengths are searched one after the other; each further slot goes to the most urgent. Nothing here is refused.
 use timetable::Entry;
 use timetable::Timetable;
 
