@@ -26,13 +26,13 @@ use port::{IDS, LONGEST};
 use rows::{Asked, Inputs};
 use table::Section;
 
-/// The histories of source 001's workload.
+/// The histories of the 2021 paper's workload.
 const HISTORIES: usize = 200;
 /// The worst inputs of each ending.
 const WORST: usize = 12;
 /// The odd queries, which are compared only.
 const ODD: usize = 2000;
-/// Source 001's heuristic takes 300 microseconds; the goal is to be 20 times faster.
+/// The 2021 paper's heuristic takes 300 microseconds; the goal is to be 20 times faster.
 const SOURCE_GOAL: f64 = 300.0 / 20.0;
 /// A tenth of a slot of 2 ms, in microseconds.
 const WORST_GOAL: f64 = 200.0;

@@ -1,4 +1,4 @@
-//! Requests as the generators think of them, and as the bytes of document 01.
+//! Requests as the generators think of them, and as bytes (docs/RULES.md 6).
 
 use port::IDS;
 

@@ -13,18 +13,18 @@ use crate::timing::{self, Effort, Times};
 
 /// The queries of a row.
 const QUERIES: usize = 400;
-/// The passes over source 001's workload.
+/// The passes over the 2021 paper's workload.
 const PASSES: usize = 25;
 /// The runs of each program.
 const RUNS: usize = 9;
-/// How often a request of source 001's workload is timed.
+/// How often a request of the 2021 paper's workload is timed.
 const SOURCE_EFFORT: Effort = Effort { batch: 16, rounds: 21 };
 /// How often a worst request is timed.
 const WORST_EFFORT: Effort = Effort { batch: 4, rounds: 41 };
 /// How often a query is timed.
 const QUERY_EFFORT: Effort = Effort { batch: 64, rounds: 15 };
 
-/// The inputs of all changes: source 001's, and the worst in vain and found at the last length.
+/// The inputs of all changes: the 2021 paper's, and the worst in vain and found at the last length.
 pub struct Inputs {
     pub source: Vec<Input>,
     pub exhausted: Vec<Input>,
@@ -38,7 +38,7 @@ pub struct Asked {
     pub queries: Vec<Query>,
 }
 
-/// Source 001's workload: all requests, those searched, and one pass after the other over all.
+/// The 2021 paper's workload: all requests, those searched, and one pass after the other over all.
 pub fn source(inputs: &Inputs) -> Section {
     let all = &inputs.source;
     let rows = vec![
@@ -47,7 +47,7 @@ pub fn source(inputs: &Inputs) -> Section {
         changes("those with 2 tries or more", &with_tries(all, 2), SOURCE_EFFORT),
         passes("all in turn, none repeated, mean of a request", all),
     ];
-    Section { letter: "a", title: "Source 001's workload", rows }
+    Section { letter: "a", title: "The 2021 paper's workload", rows }
 }
 
 /// The inputs with so many tries or more.

@@ -1,5 +1,5 @@
-//! The workload of source document 001: 10 to 15 partitions, factors 1/2 to 1/128, bounds 1 to 5
-//! with four in five at 1, T 0 to 20. Each history starts from the empty controller.
+//! The workload of the 2021 paper (docs/RULES.md 14): 10 to 15 partitions, factors 1/2 to 1/128,
+//! bounds 1 to 5 with four in five at 1, T 0 to 20. Each history starts from the empty controller.
 
 use crate::inputs::{empty_image, Input};
 use crate::random::Random;

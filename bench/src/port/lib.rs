@@ -1,5 +1,5 @@
-//! A plain port of document 01's rules: safe Rust, no proofs. It is what the library is measured
-//! against, so it offers the library's interface: a timetable passes as an image of 273 bytes.
+//! A plain port of the rules (docs/RULES.md): safe Rust, no proofs. The library is measured
+//! against it, so it offers the library's interface: a timetable passes as an image of 273 bytes.
 #![forbid(unsafe_code)]
 
 mod change;
