@@ -8,7 +8,7 @@ use crate::timetable::{
     LONGEST_TRANSITION,
 };
 
-/// The clauses of document 01's "Sound means".
+/// The clauses of soundness, docs/RULES.md 3.6 to 3.12.
 #[derive(Clone, Copy, Debug, PartialEq, Eq)]
 pub enum Clause {
     RequestSlot,

@@ -1,4 +1,5 @@
-//! Document 01's cases as requests and queries: the bench cases that are such, and the run-only ones.
+//! The cases of docs/RULES.md 11 as requests and queries: the bench cases that are such, and the
+//! run-only ones.
 
 use crate::change::{change, AREA};
 use crate::probe::{
@@ -149,7 +150,7 @@ fn late_slice() -> Timetable {
 }
 
 /// All 32 ids with period 32, each with its own offset, after a transition of 64 slots.
-fn all_listed() -> Timetable {
+pub fn all_listed() -> Timetable {
     let mut timetable = Timetable { length: 64, base: 64, ..Timetable::empty() };
     for (offset, entry) in (0..).zip(&mut timetable.entries) {
         *entry = Entry { period: 32, offset, bound: 1, shortfall: 0 };

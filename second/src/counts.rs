@@ -161,7 +161,7 @@ impl ProbeCounts {
 /// Every way in which a probe's timetable is made, with its name.
 fn origins() -> Vec<(Origin, String)> {
     let plain = [
-        (Origin::Case, "of document 01's cases"),
+        (Origin::Case, "of the cases"),
         (Origin::Reached, "as a history reached it"),
         (Origin::Built, "any sound one"),
         (Origin::BytesChanged, "bytes changed"),

@@ -1,6 +1,6 @@
-//! An independent model of the timetable changer, written from document 01 by slots. It shares no
-//! code with the library it is compared with. What each works out how, and what is alike in both,
-//! is in second/README.md.
+//! An independent model of the timetable changer, written from docs/RULES.md 2 to 9 by slots. It
+//! shares no code with the library it is compared with. What each works out how, and what is alike
+//! in both, is in second/README.md.
 
 #![forbid(unsafe_code)]
 
@@ -8,6 +8,8 @@ pub mod breaks;
 pub mod cases;
 pub mod change;
 pub mod counts;
+pub mod documents;
+pub mod figures;
 pub mod frames;
 pub mod generate;
 pub mod numbers;
@@ -19,8 +21,14 @@ pub mod records;
 pub mod timetable;
 
 mod damage;
+mod dictionary;
+mod followed;
+mod run;
 mod slots;
+mod worked;
 
+#[cfg(test)]
+mod figures_tests;
 #[cfg(test)]
 mod probe_tests;
 #[cfg(test)]

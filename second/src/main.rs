@@ -1,10 +1,13 @@
 //! The second program's commands: `lines` answers request frames, `generate` makes them and
-//! `counts` counts the answers; `answers`, `probes` and `probe-counts` do so for probes.
+//! `counts` counts the answers; `answers`, `probes` and `probe-counts` do so for probes; `figures`
+//! holds documents against the figures of the cases.
 
 #![forbid(unsafe_code)]
 
 use second_model::cases;
 use second_model::counts::{ProbeCounts, RequestCounts};
+use second_model::documents::{faults, Document};
+use second_model::figures::Figures;
 use second_model::frames::{frame, print_lines, print_probes};
 use second_model::generate::Generator;
 use second_model::probes::Probes;
@@ -13,12 +16,14 @@ use std::process::ExitCode;
 
 const USAGE: &str = "\
 second lines                    frames from standard input, a line for each request
-second cases                    document 01's cases as request frames to standard output
+second cases                    the cases of docs/RULES.md 11 as request frames to standard output
 second generate SEED COUNT      random request frames to standard output
 second counts SEED COUNT        how often each answer comes in those frames
 second answers                  probe frames from standard input, a line for each probe
-second probes SEED COUNT        document 01's cases and random probes to standard output
-second probe-counts SEED COUNT  how often each answer comes in those probes";
+second probes SEED COUNT        the cases and random probes to standard output
+second probe-counts SEED COUNT  how often each answer comes in those probes
+second figures                  the figures that the documents show, worked out
+second figures FILE..           whether the documents show them";
 
 /// The command that the arguments name is run; anything else shows how the program is used.
 fn main() -> ExitCode {
@@ -28,6 +33,8 @@ fn main() -> ExitCode {
         ["lines"] => Some(lines()),
         ["cases"] => Some(write_frames(cases::requests())),
         ["answers"] => Some(answers()),
+        ["figures"] => Some(print_figures()),
+        ["figures", ref files @ ..] => Some(check_figures(files)),
         [command, seed, count] => numbers(seed, count).and_then(|of| random(command, of)),
         _ => None,
     };
@@ -103,4 +110,35 @@ fn counts((seed, count): (u64, u64)) -> io::Result<()> {
 fn probe_counts((seed, count): (u64, u64)) -> io::Result<()> {
     let counts = ProbeCounts::of(Probes::new(seed, count));
     write!(io::stdout(), "{}", counts.tables())
+}
+
+/// The figures that the documents show are printed by name.
+fn print_figures() -> io::Result<()> {
+    write!(io::stdout(), "{}", Figures::of_documents().text())
+}
+
+/// Documents are held against the figures; each place that differs is named.
+fn check_figures(files: &[&str]) -> io::Result<()> {
+    let documents: io::Result<Vec<Document>> = files.iter().map(|name| document(name)).collect();
+    let figures = Figures::of_documents();
+    let faults = faults(&documents?, &figures);
+    for fault in &faults {
+        writeln!(io::stderr(), "{fault}")?;
+    }
+    if !faults.is_empty() {
+        return Err(io::Error::other(format!(
+            "places that differ from the figures: {}",
+            faults.len()
+        )));
+    }
+    let (blocks, examples) = (figures.blocks.len(), figures.cells.len());
+    let shown = format!("{blocks} blocks, {examples} examples, {} phrases", figures.phrases.len());
+    writeln!(io::stdout(), "the figures of {} are those worked out: {shown}", files.join(", "))
+}
+
+/// A file as a document.
+fn document(name: &str) -> io::Result<Document> {
+    let text = std::fs::read_to_string(name)
+        .map_err(|error| io::Error::new(error.kind(), format!("{name}: {error}")))?;
+    Ok(Document { name: String::from(name), text })
 }

@@ -37,7 +37,7 @@ struct Subject {
     request: Vec<u8>,
 }
 
-/// A stream of probes: document 01's cases, then random ones along histories.
+/// A stream of probes: the cases of docs/RULES.md 11, then random ones along histories.
 pub struct Probes {
     random: Random,
     cases: std::vec::IntoIter<Vec<u8>>,

@@ -16,7 +16,7 @@ pub const TAG_OWNERS: u8 = 0x11;
 pub const TAG_OFFSET: u8 = 0x12;
 
 /// The bytes of a tag and a length before the content.
-const HEAD: usize = 3;
+pub const HEAD: usize = 3;
 
 /// What a request asks: its slot, the longest transition T, and the listing from that slot on.
 #[derive(Clone, Copy, Debug, PartialEq, Eq)]

@@ -140,7 +140,7 @@ fn case_f() {
     refused(&b, &request_d(7, 64), 9, 0, 1);
 }
 
-/// G: the shortfall of figure 7 is 448 at slot 8.
+/// G: the shortfall of figure 7 in the 2021 paper (docs/RULES.md 14) is 448 at slot 8.
 #[test]
 fn case_g() {
     let mut shortfall = 0;
@@ -740,7 +740,7 @@ fn lines_of(input: &[u8]) -> String {
     String::from_utf8_lossy(&output).into_owned()
 }
 
-/// The lines that document 01 gives for cases A and B; no input gives no line.
+/// The lines that docs/RULES.md 9 gives for cases A and B; no input gives no line.
 #[test]
 fn lines_of_a_and_b() {
     let input = [frame(&request_a()), frame(&request_b(1))].concat();
@@ -748,7 +748,7 @@ fn lines_of_a_and_b() {
     assert_eq!(lines_of(&[]), "");
 }
 
-/// The lines of document 01's cases, in the stream's order.
+/// The lines of the cases of docs/RULES.md 11, in the stream's order.
 #[test]
 fn lines_of_the_cases() {
     let input: Vec<u8> = cases::requests().iter().flat_map(|request| frame(request)).collect();
@@ -814,7 +814,7 @@ fn query_lines() -> Vec<String> {
     owners.chain(standings).collect()
 }
 
-/// The probe's lines for document 01's cases.
+/// The probe's lines for the cases of docs/RULES.md 11.
 #[test]
 fn probe_lines_of_the_cases() {
     let lines: Vec<String> = cases::probes().iter().map(|probe| probe_line(probe)).collect();

@@ -1,5 +1,6 @@
-//! Demand 3 by brute force: runs are recorded slot by slot and all their windows are looked at,
-//! and each length tried is held against a search through all choices of offsets.
+//! Demand 3 (docs/RULES.md 1.6) by brute force: runs are recorded slot by slot and all their
+//! windows are looked at, and each length tried is held against a search through all choices of
+//! offsets.
 
 use crate::change::{change, listed, Outcome, AREA};
 use crate::generate::Generator;
@@ -154,7 +155,7 @@ fn some_choice(choices: &[(u16, Vec<u16>)], taken: &[bool; 256]) -> bool {
     })
 }
 
-/// A cyclic placement in the sense of demand 3 exists for the shortfalls reached.
+/// A cyclic placement in the sense of docs/RULES.md 5 exists for the shortfalls reached.
 fn placement_exists(listing: &Listing, shortfalls: &Shortfalls) -> bool {
     let choices: Vec<(u16, Vec<u16>)> = listed(listing)
         .map(|(id, share)| (share.period, bearable(shortfalls[id], share)))

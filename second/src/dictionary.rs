@@ -1,0 +1,546 @@
+//! The figures of docs/DICTIONARY.md, section by section.
+
+use crate::cases::all_listed;
+use crate::change::AREA;
+use crate::figures::{aligned, code, list, list_and, thousands, Figures};
+use crate::frames::{frame, LONGEST_FRAME, TAG_FRAME};
+use crate::numbers;
+use crate::probe::{image_of, IMAGE};
+use crate::queries::standing_query;
+use crate::records::{
+    longest_field, share_field, slot_field, write_answer, HEAD, TAG_LENGTH, TAG_OFFSET, TAG_OWNERS,
+};
+use crate::run::Run;
+use crate::slots::{last_offset, room};
+use crate::timetable::{
+    Share, Timetable, CYCLE, IDLE, IDS, LARGEST_BOUND, LARGEST_EXPONENT, LAST_SLOT,
+    LONGEST_TRANSITION,
+};
+use crate::worked::{
+    anew, answer_b, answer_e, answered, asked_a, asked_b, bytes_b, ids, left_and_returned, mark,
+    offsets, run_a, run_b, share, DETECTOR, LAST_SHOWN, PUMP_LOOP, VALVE,
+};
+use std::mem::size_of_val;
+use std::ops::Range;
+
+/// The figures of each section.
+pub fn add_to(figures: &mut Figures) {
+    figures.whole.push(String::from("Dictionary of figures"));
+    add_head(figures);
+    add_windows(figures);
+    add_promised(figures);
+    add_readings(figures);
+    add_after(figures);
+    add_words(figures);
+    add_listing(figures);
+    add_search(figures);
+    add_shares(figures);
+    add_window_figures(figures);
+    add_places(figures);
+    add_timetable(figures);
+    add_image(figures);
+    add_frame(figures);
+    add_request(figures);
+    add_answer(figures);
+    add_record(figures);
+    add_numbers(figures);
+    add_queries(figures);
+    add_line(figures);
+}
+
+/// The title, and the first entry.
+fn add_head(figures: &mut Figures) {
+    let title = "Dictionary of figures";
+    figures.phrase(title, "numbered from 0");
+    let names = format!("{PUMP_LOOP} the pump loop, {DETECTOR} the detector, {VALVE} the valve");
+    figures.phrase(title, format!("ids there are {names}"));
+    let section = "Shortfall, called \"deficit\" in the lab's column";
+    figures.phrase(section, format!("less {CYCLE} x its supply"));
+    figures.phrase(
+        section,
+        format!("Unit.** {CYCLE}ths of a slot: entitlement is counted in {CYCLE}ths"),
+    );
+    figures.phrase(section, format!("slots of {CYCLE} each. Below {CYCLE} R the bound R is kept"));
+    figures.phrase(section, "Slots.antt`: 0 where the partition is newly listed");
+    figures.phrase(section, format!("the larger of 0 and (shortfall + weight - {CYCLE} if"));
+}
+
+/// The windows of the pump loop that end at case B's slot, from the longest to the empty one.
+fn add_windows(figures: &mut Figures) {
+    let section = "The same figure by its windows";
+    let (run, end) = (run_a(), asked_b().slot);
+    let row = |from: u64| {
+        let name = match end - from {
+            0 => String::from("empty"),
+            _ => slots(&(from..end)),
+        };
+        let entitlement = run.entitlement(PUMP_LOOP, from..end);
+        let (supply, excess) = (run.supply(PUMP_LOOP, from..end), run.excess(PUMP_LOOP, from..end));
+        format!("{name:12}  {entitlement:>11}  {supply:>6}  {excess:>6}")
+    };
+    let head = String::from("window        entitlement  supply  excess");
+    let rows: Vec<String> = [head].into_iter().chain((0..=end).map(row)).collect();
+    figures.block(&format!("windows that end at slot {end}"), rows.join("\n"));
+    let largest = (0..=end).map(|from| run.excess(PUMP_LOOP, from..end)).max().unwrap_or(0);
+    figures.phrase(section, format!("The pump loop (id {PUMP_LOOP})"));
+    figures.phrase(section, format!("at the start of slot {end}"));
+    figures.phrase(section, format!("Its largest excess is {largest}"));
+    let steps = run.shortfall(PUMP_LOOP, end);
+    figures.phrase(section, format!("the steps over {} give {steps} too", slots(&(0..end))));
+}
+
+/// A window's slots, the first and the last.
+fn slots(window: &Range<u64>) -> String {
+    format!("slots {} to {}", window.start, window.end - 1)
+}
+
+/// The section on last spring.
+const SPRING: &str = "Last spring's disagreement, worked through";
+
+/// An id's row of shortfalls in a block.
+fn shortfall_row<'a>(
+    name: &'a str,
+    run: &Run,
+    id: u8,
+    slots: Range<u64>,
+) -> (&'a str, Vec<String>) {
+    (name, slots.map(|slot| run.shortfall(id, slot).to_string()).collect())
+}
+
+/// What is promised, and the shortfalls up to the change.
+fn add_promised(figures: &mut Figures) {
+    let (asked, joins) = (asked_a(), asked_b());
+    let (quarter, half) = (share(&asked.listing, PUMP_LOOP), share(&joins.listing, VALVE));
+    let both = format!("The pump loop (id {PUMP_LOOP}) and the detector (id {DETECTOR})");
+    figures.phrase(SPRING, both);
+    let (period, bound, weight) = (quarter.period, quarter.bound, quarter.weight());
+    figures.phrase(SPRING, format!("one slot in {period} with bound {bound}: weight {weight}"));
+    figures.phrase(SPRING, format!("At slot {} the method changes", joins.slot));
+    let (period, bound) = (half.period, half.bound);
+    let joining =
+        format!("the valve (id {VALVE}) joins with one slot in {period} and bound {bound}");
+    figures.phrase(SPRING, joining);
+    let run = run_a();
+    let numbers = (0..=joins.slot).map(|slot| slot.to_string()).collect();
+    let owners = (0..joins.slot).map(|slot| mark(&run, slot)).collect();
+    let shown = 0..joins.slot + 1;
+    let rows = [
+        ("slot", numbers),
+        ("owner", owners),
+        shortfall_row("pump loop, shortfall", &run, PUMP_LOOP, shown.clone()),
+        shortfall_row("detector, shortfall", &run, DETECTOR, shown),
+    ];
+    figures.block("before the change", aligned(&rows, 0));
+}
+
+/// The two readings of the pump loop's column.
+fn add_readings(figures: &mut Figures) {
+    let (slot, anew) = (asked_b().slot, anew());
+    let both = run_a().with(anew);
+    let next = slot + u64::from(anew.entries[usize::from(PUMP_LOOP)].offset);
+    let since = |slot: u64| standing_query(&both.in_force(slot), PUMP_LOOP, slot).1;
+    let mut stand = vec![since(slot), standing_query(&anew, DETECTOR, slot).1];
+    stand.dedup();
+    figures.phrase(SPRING, format!("at slot {slot} both stand at {}", list(stand)));
+    figures.phrase(SPRING, format!("Then offsets {} from slot {slot}", list_and(offsets(&anew))));
+    let waited = format!("at slot {next} it has waited {} slots: {}", next - slot, since(next));
+    figures.phrase(SPRING, format!("next slot is slot {next}, and {waited}"));
+    let last = both.own_slots(PUMP_LOOP, 0..slot).pop().unwrap_or(0);
+    let window = last + 1..next;
+    let (count, weight) = (next - window.start, both.weight(PUMP_LOOP, slot));
+    let of = format!("Slots {} to {} are a window of {count} slots", window.start, next - 1);
+    figures.phrase(SPRING, format!("had its last slot at {last}. {of}"));
+    let entitled = both.entitlement(PUMP_LOOP, window.clone());
+    let had = both.supply(PUMP_LOOP, window.clone());
+    let entitled =
+        format!("entitled to {count} x {weight} = {entitled}, one whole slot, and had {had}");
+    figures.phrase(SPRING, entitled);
+    let (reached, bound) = (both.shortfall(PUMP_LOOP, next), bound(PUMP_LOOP));
+    let below = if breaks(PUMP_LOOP, reached) { "not below" } else { "below" };
+    let broken = format!("At slot {next} the shortfall is {reached}, {below} {CYCLE} x {bound}");
+    figures.phrase(SPRING, broken);
+    let shown = window.start..next + 1;
+    let one = shown.clone().map(|slot| since(slot).to_string()).collect();
+    let two = shortfall_row("reading two, pump loop", &both, PUMP_LOOP, shown.clone());
+    let numbers = shown.map(|slot| slot.to_string()).collect();
+    let rows = aligned(&[("slot", numbers), ("reading one, pump loop", one), two], 0);
+    let kept = format!("{below} {}: broken", limit(PUMP_LOOP));
+    let ends = [String::new(), format!("   starts anew at {slot}"), format!("   {kept}")];
+    figures.block("two readings", with_ends(&rows, &ends));
+}
+
+/// The bound R of an id in case B.
+fn bound(id: u8) -> u8 {
+    share(&asked_b().listing, id).bound
+}
+
+/// What an id's shortfall stays below in case B: 256 R.
+fn limit(id: u8) -> usize {
+    CYCLE * usize::from(bound(id))
+}
+
+/// Whether a shortfall breaks an id's bound in case B.
+fn breaks(id: u8, shortfall: i64) -> bool {
+    !share(&asked_b().listing, id).keeps_bound(shortfall)
+}
+
+/// The lines of a block, each with what stands behind it.
+fn with_ends(block: &str, ends: &[String]) -> String {
+    let lines: Vec<String> =
+        block.lines().zip(ends).map(|(line, end)| format!("{line}{end}")).collect();
+    lines.join("\n")
+}
+
+/// What the controller does instead, and the shortfalls from the change on.
+fn add_after(figures: &mut Figures) {
+    let (run, slot) = (run_b(), asked_b().slot);
+    let timetable = run.present();
+    let owed = run.shortfall(DETECTOR, slot);
+    let left = room(owed, share(&asked_b().listing, DETECTOR));
+    let passed = list(0..timetable.length);
+    let passes = format!("passes length {passed} over at slot {slot}");
+    figures.phrase(
+        SPRING,
+        format!("{passes}, gives slot {slot} to the detector ({owed}, room {left})"),
+    );
+    figures.phrase(SPRING, format!("starts the cycle at slot {}", timetable.base));
+    figures.phrase(SPRING, format!("stays below {CYCLE} R of its own"));
+    let (pump, valve) = (limit(PUMP_LOOP).max(limit(DETECTOR)), limit(VALVE));
+    let below =
+        format!("the pump loop's and the detector's below {pump}, the valve's below {valve}");
+    figures.phrase(SPRING, below);
+    let shown = slot..LAST_SHOWN + 1;
+    let most = shown.clone().map(|slot| run.shortfall(VALVE, slot)).max().unwrap_or(0);
+    let at = list(shown.clone().filter(|&slot| run.shortfall(VALVE, slot) == most));
+    let keeps = if breaks(VALVE, most) { "breaks" } else { "keeps" };
+    let stands = format!("The valve stands at {most} at slots {at} and {keeps} its bound");
+    figures.phrase(SPRING, stands);
+    let numbers = shown.clone().map(|slot| slot.to_string()).collect();
+    let owners = shown.clone().map(|slot| mark(&run, slot)).collect();
+    let rows = [
+        ("slot", numbers),
+        ("owner", owners),
+        shortfall_row("pump loop, shortfall", &run, PUMP_LOOP, shown.clone()),
+        shortfall_row("detector, shortfall", &run, DETECTOR, shown.clone()),
+        shortfall_row("valve, shortfall", &run, VALVE, shown),
+    ];
+    let below = [PUMP_LOOP, DETECTOR, VALVE].map(|id| format!("   below {}", limit(id)));
+    let ends = [&[String::new(), String::new()][..], &below[..]].concat();
+    figures.block("after the change", with_ends(&aligned(&rows, 0), &ends));
+}
+
+/// "Words": windows, idle slots, the empty timetable, and what is in force.
+fn add_words(figures: &mut Figures) {
+    let section = "Words";
+    let (run, slot) = (run_a(), asked_b().slot);
+    let last = run.own_slots(PUMP_LOOP, 0..slot).pop().unwrap_or(0);
+    let window = format!("A: {}, id {PUMP_LOOP}", slots(&(last + 1..slot)));
+    figures.cell(section, "window", window);
+    figures.phrase(section, format!("idle, owner {IDLE} "));
+    figures.phrase(section, format!("told as {IDLE}, which is no id"));
+    let idle = format!("A: slot {}: {}", last + 1, run.owner(last + 1));
+    figures.cell(section, format!("idle, owner {IDLE}"), idle);
+    let Timetable { request_slot, length, .. } = Timetable::empty();
+    let starts = format!("request slot {request_slot}, length {length}, nothing listed");
+    figures.phrase(section, starts);
+    let first = format!("slot {request_slot}: {}", Run::empty().owner(request_slot));
+    figures.cell(section, "the empty timetable", first);
+    let both = run_b();
+    let name = |slot: u64| if both.in_force(slot) == both.present() { "B's" } else { "A's" };
+    let (before, after) = (name(slot - 1), name(slot));
+    let force = format!("slot {}: {before}; slot {slot}: {after}", slot - 1);
+    figures.cell(section, "in force", force);
+    let around = slot - 1..slot + 2;
+    let owners = list(around.clone().map(|slot| both.owner(slot)));
+    let run = format!("A, then B: slots {} have owners {owners}", list(around));
+    figures.cell(section, "run", run);
+}
+
+/// "Words": ids that are newly listed, and one that leaves and returns.
+fn add_listing(figures: &mut Figures) {
+    let section = "Words";
+    let (run, slot) = (run_b(), asked_b().slot);
+    figures.phrase(section, "its shortfall starts at 0");
+    let listed = ids(&asked_b().listing);
+    let (newly, before): (Vec<u8>, Vec<u8>) =
+        listed.into_iter().partition(|&id| run.newly_listed(id, slot));
+    let owed = |ids: &[u8]| list_and(ids.iter().map(|&id| run.shortfall(id, slot)));
+    let joins = format!("id {}, shortfall {}", list_and(&newly), owed(&newly));
+    let stay = format!("ids {}, shortfalls {}", list_and(&before), owed(&before));
+    figures.cell(section, "newly listed", format!("B at slot {slot}: {joins}; not {stay}"));
+    let base = run.present().base;
+    let (anew, owed) = (left_and_returned(), run.shortfall(PUMP_LOOP, base));
+    let asked = format!("left out at slot {base} and asked for again at slot {base}");
+    let starts = format!("shortfall {}, not {owed}", anew.shortfall(PUMP_LOOP, base));
+    let text = format!("B, then id {PUMP_LOOP} {asked}: {starts}");
+    figures.cell(section, "leaves and returns", text);
+}
+
+/// "Words": placements, lengths, the answer area and soundness.
+fn add_search(figures: &mut Figures) {
+    let section = "Words";
+    let (a, b) = (run_a().present(), run_b().present());
+    figures.phrase(section, format!("stays below {CYCLE} R of its own"));
+    figures.cell(section, "cyclic placement", format!("A: offsets {}", list(offsets(&a))));
+    let own = list(run_b().own_slots(DETECTOR, b.base..LAST_SHOWN));
+    figures.cell(section, "cyclic slot", format!("B, id {DETECTOR}: slots {own}"));
+    figures.cell(section, "passed over", format!("B: length {}", list(0..b.length)));
+    let tries = answer_e(LONGEST_TRANSITION as u8).tries;
+    let reached = format!("E with T {LONGEST_TRANSITION}: length {tries}, after {tries} tries");
+    figures.cell(section, "can't be reached", reached);
+    figures.phrase(section, format!("at least {AREA}, as many as the longest record has"));
+    let (longest, (outcome, _)) = (all_listed(), answer_b());
+    let (owners, listed) = (longest.transition().len(), ids(&longest.listing()).len());
+    let size = write_answer(&longest).len();
+    let sizes =
+        format!("{owners} owners and {listed} ids: {size} bytes; B: {} bytes", outcome.written);
+    figures.cell(section, "answer area", sizes);
+    let unsound = Timetable { base: b.base + 1, ..b };
+    let refused = answered(&Run::empty().with(unsound), &bytes_b()).0.number;
+    figures.cell(section, "sound", format!("B with base {}: refused {refused}", unsound.base));
+}
+
+/// The section on the figures of a partition.
+const PARTITION: &str = "Figures of a partition";
+
+/// "Figures of a partition": id, period, weight and bound.
+fn add_shares(figures: &mut Figures) {
+    let Share { period, bound, .. } = share(&asked_a().listing, PUMP_LOOP);
+    let (k, weight) = (period.trailing_zeros(), share(&asked_a().listing, PUMP_LOOP).weight());
+    figures.phrase(PARTITION, format!("which partition | 0 to {}", IDS - 1));
+    figures.cell(PARTITION, "id", format!("{DETECTOR}, the detector"));
+    let periods = format!("slots, 1 to {}", 1 << LARGEST_EXPONENT);
+    figures.phrase(PARTITION, format!("one slot in every 2^k | {periods}"));
+    figures.cell(PARTITION, "k, period", format!("k {k}: period {period}"));
+    figures.phrase(
+        PARTITION,
+        format!("weight | {CYCLE} / period: the entitlement per slot | {CYCLE}ths"),
+    );
+    figures.cell(PARTITION, "weight", format!("period {period}: {weight}"));
+    figures.phrase(PARTITION, format!("shortfall below {CYCLE} R"));
+    figures.phrase(PARTITION, format!("slots, 1 to {LARGEST_BOUND}"));
+    let larger = share(&asked_b().listing, VALVE).bound;
+    let below = |bound: u8| format!("R {bound}: below {}", CYCLE * usize::from(bound));
+    figures.cell(PARTITION, "bound R", format!("{}; {}", below(bound), below(larger)));
+}
+
+/// "Figures of a partition": entitlement, supply and excess of one window.
+fn add_window_figures(figures: &mut Figures) {
+    let run = run_a();
+    let mut own = run.own_slots(PUMP_LOOP, 0..8).into_iter();
+    let window = own.next().unwrap_or(0) + 1..own.next().unwrap_or(0) + 1;
+    let name = format!("A, id {PUMP_LOOP}, {}", slots(&window));
+    let entitlement = run.entitlement(PUMP_LOOP, window.clone());
+    let own = run.own_slots(PUMP_LOOP, window.clone());
+    let (supply, excess) = (own.len(), run.excess(PUMP_LOOP, window));
+    figures.phrase(PARTITION, format!("slots of a window | {CYCLE}ths of a slot"));
+    figures.cell(PARTITION, "entitlement", format!("{name}: {entitlement}"));
+    figures.cell(PARTITION, "supply", format!("{name}: {supply} (slot {})", list(own)));
+    figures.phrase(PARTITION, format!("less {CYCLE} x its supply | {CYCLE}ths of a slot"));
+    figures.phrase(PARTITION, format!("where it is below {CYCLE} R"));
+    let sum = format!("{entitlement} - {CYCLE} x {supply} = {excess}");
+    figures.cell(PARTITION, "excess", format!("{name}: {sum}"));
+}
+
+/// "Figures of a partition": room, offsets and slices.
+fn add_places(figures: &mut Figures) {
+    let (run, asked) = (run_b(), asked_b());
+    let told = |share: Share, owed: i64| {
+        format!("period {}, R {}, shortfall {owed}", share.period, share.bound)
+    };
+    let (pump, owed) = (share(&asked.listing, PUMP_LOOP), run.shortfall(PUMP_LOOP, asked.slot));
+    figures.phrase(PARTITION, format!("room | ({CYCLE} R - 1 - shortfall) / weight"));
+    figures.cell(PARTITION, "room", format!("{}: {}", told(pump, owed), room(owed, pump)));
+    figures.cell(PARTITION, "offset", format!("B: offsets {}", list(offsets(&run.present()))));
+    let (valve, owed) = (share(&asked.listing, VALVE), run.shortfall(VALVE, asked.slot));
+    figures.phrase(PARTITION, "room and period - 1");
+    let last = format!("{}: {}", told(valve, owed), last_offset(owed, valve));
+    figures.cell(PARTITION, "last offset", last);
+    let own = run.own_slots(DETECTOR, run.present().base..LAST_SHOWN);
+    let own = own.first().copied().unwrap_or(0);
+    let had = |slot: u64| standing_query(&run.present(), DETECTOR, slot).2;
+    let out = format!("slot {}, in the transition, is not counted", asked.slot);
+    let counts = format!("at slot {own}: {}; at slot {}: {}", had(own), own + 1, had(own + 1));
+    let slices = format!("B, id {DETECTOR}: {out}; {counts} (slot {own})");
+    figures.cell(PARTITION, "slices had", slices);
+}
+
+/// The highest slot as a power of two.
+fn highest_slot() -> String {
+    format!("2^{} - 1", (LAST_SLOT + 1).trailing_zeros())
+}
+
+/// "Figures of a timetable", of case B.
+fn add_timetable(figures: &mut Figures) {
+    let section = "Figures of a timetable";
+    let b = run_b().present();
+    figures.phrase(section, format!("at most {}", highest_slot()));
+    figures.cell(section, "request slot", b.request_slot);
+    figures.phrase(section, format!("slots, 0 to {LONGEST_TRANSITION}"));
+    figures.cell(section, "transition length", b.length);
+    figures.cell(section, "owners", list(b.transition()));
+    figures.phrase(section, "the cycle's slot 0");
+    figures.cell(section, "base", b.base);
+    figures.phrase(section, format!("shortfall at the base | {CYCLE}ths of a slot"));
+    let kept = b.entries.iter().filter(|entry| entry.listed()).map(|entry| entry.shortfall);
+    figures.cell(section, "kept shortfall", list(kept));
+}
+
+/// "The image in C", of case B: the fields one behind the other.
+fn add_image(figures: &mut Figures) {
+    let section = "The image in C";
+    let b = run_b().present();
+    let (image, entry) = (image_of(&b), b.entries[0]);
+    let slot = size_of_val(&b.request_slot);
+    let base = slot + 1 + b.owners.len();
+    let entries = base + slot;
+    let own = [size_of_val(&entry.period), 1, 1, size_of_val(&entry.shortfall)];
+    let size: usize = own.iter().sum();
+    figures.phrase(section, format!("an image of {IMAGE} bytes"));
+    figures.phrase(section, format!("| request slot | {slot} |"));
+    let bytes = |from: usize, size: usize| {
+        format!("bytes {from} to {}: {}", from + size - 1, code(&image[from..from + size]))
+    };
+    figures.cell(section, "request slot", bytes(0, slot));
+    figures.phrase(section, "| transition length | 1 |");
+    figures.cell(
+        section,
+        "transition length",
+        format!("byte {slot}: {}", code(&image[slot..=slot])),
+    );
+    figures.phrase(section, format!("| owners | {}, the unused ones 0 |", b.owners.len()));
+    let first = code(&image[slot + 1..slot + 2]);
+    let owners = format!("bytes {} to {}, the first: {first}", slot + 1, base - 1);
+    figures.cell(section, "owners", owners);
+    figures.phrase(section, format!("| base | {slot} |"));
+    figures.cell(section, "base", bytes(base, slot));
+    figures.phrase(section, format!("| {}; all 0 where", list_and(own)));
+    let of = |id: u8| format!("id {id}, {}", bytes(entries + size * usize::from(id), size));
+    let row = "each id's period, offset, R and kept shortfall";
+    figures.cell(section, row, format!("{}; {}", of(PUMP_LOOP), of(VALVE)));
+}
+
+/// "A frame, as bytes", of case B.
+fn add_frame(figures: &mut Figures) {
+    let section = "A frame, as bytes";
+    let frame = frame(&bytes_b());
+    let (head, content) = frame.split_at(HEAD);
+    figures.phrase(section, format!("not cut off | {} bytes and the content", head.len()));
+    figures.cell(section, "frame", format!("{}, then {} bytes", code(head), content.len()));
+    figures.phrase(section, format!("the tag of a frame | {TAG_FRAME:x} hex"));
+    figures.cell(section, "first byte", code(&head[..1]));
+    let range = format!("0 to {} bytes", thousands(LONGEST_FRAME));
+    figures.phrase(section, format!("the length of the content | {range}"));
+    let length = format!("{}: {} bytes", code(&head[1..]), content.len());
+    figures.cell(section, "two bytes", length);
+    figures.cell(section, "content", code(content));
+}
+
+/// "A request, as bytes": case B's fields, and a short one.
+fn add_request(figures: &mut Figures) {
+    let section = "A request, as bytes";
+    let (asked, ids) = (asked_b(), format!("0 to {}", IDS - 1));
+    let exponents = format!("0 to {LARGEST_EXPONENT}");
+    let exponent = |id: u8| share(&asked.listing, id).period.trailing_zeros() as u8;
+    let full = share_field(VALVE, exponent(VALVE), share(&asked.listing, VALVE).bound, false);
+    let short = share_field(PUMP_LOOP, exponent(PUMP_LOOP), bound(PUMP_LOOP), true);
+    let ranges = format!("{ids}, {exponents}, 1 to {LARGEST_BOUND}");
+    let fields = [
+        (slot_field(asked.slot), format!("request slot | 0 to {}", highest_slot())),
+        (
+            longest_field(asked.longest),
+            format!("T, the longest transition allowed | 0 to {LONGEST_TRANSITION}"),
+        ),
+        (full, format!("id, k, R; ids rise | {ranges}")),
+        (short, format!("id, k; R is 1 | {ids}, {exponents}")),
+    ];
+    for (field, content) in fields {
+        let row = format!("{:02x}, length {}", field[0], field[2]);
+        figures.phrase(section, format!("| {row} | {content} |"));
+        figures.cell(section, row, code(&field));
+    }
+}
+
+/// "An answer": number, place, tries and bytes written of case B.
+fn add_answer(figures: &mut Figures) {
+    let section = "An answer";
+    let (outcome, last) = (answer_b().0, numbers::SHORTFALL_TOO_LARGE);
+    figures.phrase(section, format!("number | {} accepted", numbers::ACCEPTED));
+    figures.cell(section, "number", outcome.number);
+    figures.phrase(section, "byte, id or 0");
+    figures.cell(section, "place", outcome.place);
+    let none = format!("included; 0 with {} to {last}", numbers::NOT_SOUND);
+    figures.phrase(section, format!("{none} | lengths, at most T + 1"));
+    let lengths = list_and(0..outcome.tries);
+    figures.cell(section, "tries", format!("{} (lengths {lengths})", outcome.tries));
+    figures.phrase(section, format!("answer record; 0 with a refusal | bytes, at most {AREA}"));
+    figures.cell(section, "bytes written", outcome.written);
+}
+
+/// "An answer": the fields of case B's record.
+fn add_record(figures: &mut Figures) {
+    let section = "An answer";
+    let record = answer_b().1;
+    let length = HEAD + 1;
+    let owners = length + HEAD + run_b().present().transition().len();
+    let fields = [
+        (TAG_LENGTH, record.get(..length)),
+        (TAG_OWNERS, record.get(length..owners)),
+        (TAG_OFFSET, record.get(owners..)),
+    ];
+    for (tag, field) in fields {
+        let row = format!("record, tag {tag:x} hex");
+        figures.phrase(section, &row);
+        figures.cell(section, row, code(field.unwrap_or_default()));
+    }
+}
+
+/// "What each number says": the numbers with their meanings and places, and their order.
+fn add_numbers(figures: &mut Figures) {
+    use numbers::*;
+    let section = "What each number says";
+    figures.phrase(section, format!("| {ACCEPTED} | accepted | 0 |"));
+    figures.phrase(section, format!("| {NOT_SOUND} | timetable not sound | 0 |"));
+    figures.phrase(section, format!("| {AREA_TOO_SMALL} | answer area under {AREA} bytes | 0 |"));
+    figures.phrase(section, format!("| {WRONG_FIELD} | field cut off"));
+    figures.phrase(section, format!("| {OUT_OF_RANGE} | value out of range"));
+    figures.phrase(section, "tag byte; 0 in a query |");
+    figures.phrase(section, format!("| {ID_NOT_RISING} | id not above the one before"));
+    figures.phrase(section, format!("| {TOO_EARLY} | slot too early | 0 |"));
+    figures.phrase(section, format!("| {OVERFULL} | weights sum above {CYCLE}"));
+    figures.phrase(section, format!("first passes {CYCLE} |"));
+    let behind = format!("shortfall at the request slot not below {CYCLE} x new R");
+    figures.phrase(section, format!("| {SHORTFALL_TOO_LARGE} | {behind}"));
+    figures.phrase(section, format!("| {NO_SCHEDULE} | no length up to T gives a schedule | 0 |"));
+    figures.phrase(section, format!("| {NOT_LISTED} | id not listed (queries) | 0 |"));
+    let first = list([NOT_SOUND, AREA_TOO_SMALL]);
+    figures.phrase(section, format!("The lowest stage wins: {first}, then the fields"));
+    let within = format!("{WRONG_FIELD}, then {OUT_OF_RANGE}, then {ID_NOT_RISING}");
+    let last = list([TOO_EARLY, OVERFULL, SHORTFALL_TOO_LARGE, NO_SCHEDULE]);
+    figures.phrase(section, format!("(within a field {within}), then {last}."));
+}
+
+/// "The queries", after case B.
+fn add_queries(figures: &mut Figures) {
+    let section = "The queries";
+    let run = run_b();
+    let slots = run.present().request_slot..run.present().base + 2;
+    let owners: Vec<String> =
+        slots.map(|slot| format!("slot {slot}: {}", run.owner(slot))).collect();
+    figures.phrase(section, format!("place 0, the owner or {IDLE} for idle"));
+    let row = "owner (slot), from the last request slot on";
+    figures.cell(section, row, owners.join("; "));
+    figures.phrase(section, "place 0, shortfall at the slot's start");
+    let slot = run.present().base + 1;
+    let (_, owed, slices) = standing_query(&run.present(), VALVE, slot);
+    let standing = format!("id {VALVE}, slot {slot}: {owed}, {slices} slices");
+    figures.cell(section, "standing (id, slot), from the base on", standing);
+}
+
+/// "A line of the program".
+fn add_line(figures: &mut Figures) {
+    let section = "A line of the program";
+    figures.phrase(section, "the ordinal counts requests from 1");
+    figures.phrase(section, "length, 0 if refused");
+    figures.phrase(section, format!("a length above {}", thousands(LONGEST_FRAME)));
+}

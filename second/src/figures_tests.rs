@@ -1,0 +1,289 @@
+//! The run against the queries and the windows; documents that differ from the figures in a block,
+//! an example, the prose or a marker; and every digit of the dictionary and of docs/WORKED.md.
+
+use crate::cases::{record, request_b};
+use crate::documents::{cited, faults, Document};
+use crate::figures::{list_and, thousands, Figures};
+use crate::queries::{owner_query, standing_query};
+use crate::random::Random;
+use crate::run::Run;
+use crate::timetable::{IDLE, LAST_SLOT};
+use crate::worked::{anew, answer_b, answer_e, left_and_returned, run_a, run_b};
+use std::ops::Range;
+
+/// A request for case A's or B's listing, or for some of the ids 0 to 3, soon after the base.
+fn any_request(random: &mut Random, base: u64) -> Vec<u8> {
+    let slot = base + random.below(7);
+    let share = |id: u8| (id, 1 + random.below(3) as u8, 1 + random.below(3) as u8);
+    let shares: Vec<(u8, u8, u8)> = (0..4).map(share).collect();
+    let some = random.below(4) as usize;
+    match random.below(5) {
+        0 | 1 => record(slot, 8, &[(0, 2, 1), (1, 2, 1)]),
+        2 | 3 => request_b(slot, 8),
+        _ => record(slot, 8, &shares[some..]),
+    }
+}
+
+/// The shortfall by all windows that end at a slot, since the id was last newly listed.
+fn largest_excess(run: &Run, id: u8, slot: u64) -> i64 {
+    let since = (0..=slot).rev().find(|&from| run.newly_listed(id, from)).unwrap_or(0);
+    (since..=slot).map(|from| run.excess(id, from..slot)).max().unwrap_or(0)
+}
+
+/// Where the present timetable lists an id, the queries and the windows say what the run says.
+fn same_standing(run: &Run, id: u8, slot: u64) {
+    let present = run.present();
+    if present.lists(id) {
+        let (_, shortfall, slices) = standing_query(&present, id, slot);
+        assert_eq!(run.shortfall(id, slot), i64::from(shortfall));
+        assert_eq!(run.supply(id, present.base..slot), slices as i64);
+        assert_eq!(run.shortfall(id, slot), largest_excess(run, id, slot));
+    }
+}
+
+/// From the base on, for some slots, the run is what the queries tell.
+fn same_run(run: &Run, slots: Range<u64>) {
+    for slot in slots {
+        assert_eq!(run.owner(slot), owner_query(&run.present(), slot).1);
+        (0..4).for_each(|id| same_standing(run, id, slot));
+    }
+}
+
+/// The run of random histories is that of the queries, and its shortfalls are those of its windows.
+#[test]
+fn the_run_agrees_with_queries_and_windows() {
+    let mut random = Random::new(7);
+    let mut run = Run::empty();
+    let mut lengths = 0;
+    for step in 0..720 {
+        run = if step % 6 == 0 { Run::empty() } else { run };
+        let request = any_request(&mut random, run.present().base);
+        run = run.after(&request);
+        lengths += u64::from(run.present().length);
+        same_run(&run, run.present().base..run.present().base + 9);
+    }
+    assert!(lengths > 20, "transitions are among them: {lengths}");
+}
+
+/// An id is newly listed where it joins, where it returns, and where it returns within one slot.
+#[test]
+fn newly_listed() {
+    let listed = |run: &Run, slot: u64| [0, 1, 2].map(|id| run.newly_listed(id, slot));
+    let b = run_b();
+    assert_eq!(listed(&b, 0), [true, true, false]);
+    assert_eq!(listed(&b, 6), [false, false, true]);
+    assert_eq!(listed(&b, 7), [false; 3]);
+    let returned = left_and_returned();
+    assert_eq!(listed(&returned, 7), [true, false, false]);
+    assert_eq!((b.shortfall(0, 7), returned.shortfall(0, 7)), (192, 0));
+    assert_eq!(returned.present().request_slot, 7);
+    let later = b.after(&record(7, 0, &[])).after(&record(9, 0, &[(0, 2, 1)]));
+    assert_eq!(listed(&later, 9), [true, false, false]);
+}
+
+/// The figures that documents work through, as docs/RULES.md 11 has them.
+#[test]
+fn worked_cases() {
+    assert_eq!([0, 1, 2].map(|id| run_b().shortfall(id, 6)), [128, 192, 0]);
+    assert_eq!([0, 1, 2].map(|id| run_b().shortfall(id, 7)), [192, 0, 128]);
+    assert_eq!((answer_b().0.tries, answer_b().1.len()), (2, 23));
+    assert_eq!([0, 1, 2, 64].map(|longest| answer_e(longest).tries), [1, 2, 3, 3]);
+    assert_eq!([0, 1, 2].map(|id| anew().entries[id].offset), [2, 0, 1]);
+    assert_eq!(run_a().with(anew()).shortfall(0, 8), 256);
+    assert_eq!((run_a().owner(4), run_a().owner(7)), (IDLE, 0));
+    assert_eq!((Run::empty().owner(LAST_SLOT), Run::empty().shortfall(0, 9)), (IDLE, 0));
+}
+
+/// In case B no shortfall reaches 256 R, and the valve's reaches 256.
+#[test]
+fn bounds_after_the_change() {
+    let run = run_b();
+    let most = |id: u8| (6..80).map(|slot| run.shortfall(id, slot)).max();
+    assert_eq!([0, 1, 2].map(most), [Some(192), Some(192), Some(256)]);
+}
+
+/// Numbers as the documents write them.
+#[test]
+fn numbers_in_words() {
+    assert_eq!(["0", "999", "1,000", "4,096"], [0, 999, 1000, 4096].map(thousands)[..]);
+    assert_eq!(["3", "3 and 4", "3, 4 and 5"], [3..4, 3..5, 3..6].map(list_and)[..]);
+}
+
+/// Some figures: a block, an example and a phrase, for one document that is worked as a whole.
+fn some_figures() -> Figures {
+    let mut figures = Figures::default();
+    figures.whole.push(String::from("Title"));
+    figures.block("slots of A", String::from("slot  0 1\nowner . 1"));
+    figures.cell("Title", "base", 7);
+    figures.phrase("Part", "At slot 6 it is 128");
+    figures.phrase("Part", "at slot 8 it is 256");
+    figures
+}
+
+/// A document that shows them.
+const SHOWN: &str = "\
+# Title
+
+<!-- figures: slots of A -->
+```
+slot  0 1
+owner . 1
+```
+
+| Figure | Meaning | Example (B) |
+|---|---|---|
+| base | the cycle's first slot | 7 |
+
+## Part
+
+<!-- given: 2 ms; promise 9 -->
+Slots last 2 ms (`docs/RULES.md` 2.1 and 11.B). At slot 6 it is 128, and at slot
+8 it is 256: promise 9.
+
+```sh
+second/figures 3
+```
+";
+
+/// The faults of a document, each in words.
+fn faults_of(text: &str) -> Vec<String> {
+    let document = Document { name: String::from("D.md"), text: String::from(text) };
+    faults(&[document], &some_figures()).iter().map(ToString::to_string).collect()
+}
+
+/// With one piece changed, the document has one fault, which says where, what and instead of what.
+fn refused(from: &str, to: &str, fault: [&str; 3]) {
+    assert_eq!(SHOWN.matches(from).count(), 1, "{from}");
+    let [place, expected, found] = fault;
+    let wanted = format!("{place}\n    expected: {expected}\n    found:    {found}");
+    assert_eq!(faults_of(&SHOWN.replace(from, to)), [wanted]);
+}
+
+/// What shows the figures has no fault.
+#[test]
+fn figures_shown() {
+    assert_eq!(faults_of(SHOWN), [""; 0]);
+    assert_eq!(faults_of(&SHOWN.replace("`docs/RULES.md`", "[it](docs/RULES.md)")), [""; 0]);
+    assert_eq!(faults_of(&SHOWN.replace("2.1 and 11.B", "12")), [""; 0]);
+}
+
+/// A changed figure in a block, a line more or less, and another block's name are refused.
+#[test]
+fn changed_block() {
+    refused("owner . 1", "owner . 2", ["D.md:6: \"Title\"", "owner . 1", "owner . 2"]);
+    refused("slot  0 1", "slot 0 1", ["D.md:5: \"Title\"", "slot  0 1", "slot 0 1"]);
+    let end = "the end of the block";
+    refused("owner . 1\n", "", ["D.md:6: \"Title\"", "owner . 1", end]);
+    refused("owner . 1", "owner . 1\n7", ["D.md:7: \"Title\"", end, "7"]);
+    let renamed = faults_of(&SHOWN.replace("slots of A", "slots of B"));
+    assert!(renamed[0].contains("D.md:4") && renamed[0].contains("slots of B"));
+    assert!(renamed[1].contains("a document that shows: block \"slots of A\""));
+}
+
+/// A changed example and a row without one are refused.
+#[test]
+fn changed_example() {
+    refused("first slot | 7 |", "first slot | 8 |", ["D.md:11: \"Title\"", "7", "8"]);
+    let renamed = faults_of(&SHOWN.replace("| base |", "| room |"));
+    assert!(renamed[0].contains("D.md:11") && renamed[0].contains("found:    room"));
+    assert!(renamed[1].contains("example of \"base\" in \"Title\""));
+}
+
+/// A changed figure in the prose, one too many, and phrases in another order are refused.
+#[test]
+fn changed_prose() {
+    let first = "At slot 6 it is 128";
+    let place = "D.md:16: \"Part\"";
+    refused("it is 128", "it is 192", [place, first, "At slot 6 it is 192, and at slo"]);
+    let found = "At slot 7 it is 128, and at slo";
+    refused("At slot 6", "At slot 7", [place, first, found]);
+    refused(
+        "8 it is 256",
+        "8 it is 25",
+        [place, "at slot 8 it is 256", "at slot 8 it is 25: promise 9."],
+    );
+    let number = "a number that a block, an example or a phrase gives";
+    let found = "ot 8 it is 256: promise 9 and 3.";
+    refused("promise 9.", "promise 9 and 3.", ["D.md:17: \"Part\"", number, found]);
+    let cell = "--| | base | the cycle's slot 0 |";
+    refused("the cycle's first slot", "the cycle's slot 0", ["D.md:11: \"Title\"", number, cell]);
+    let turned = SHOWN.replace("slot 6 it is 128", "slot 8 it is 256");
+    assert_eq!(faults_of(&turned.replace("slot\n8 it is 256", "slot\n6 it is 128")).len(), 2);
+}
+
+/// A given phrase stands in its section, and is a number with a word beside it.
+#[test]
+fn changed_given() {
+    let stands = "a given phrase that stands in the section";
+    refused("last 2 ms", "last 3 ms", ["D.md:15: \"Part\"", stands, "2 ms"]);
+    refused(": promise 9", ": promise 90", ["D.md:15: \"Part\"", stands, "promise 9"]);
+    let word = "a given number with a word beside it";
+    refused("given: 2 ms", "given: 2", ["D.md:15: \"Part\"", word, "2"]);
+}
+
+/// A block without a marker, a marker without a block and a fence without an end are refused.
+#[test]
+fn changed_markers() {
+    let marker = "a marker <!-- figures: NAME --> above the block, or ```sh for commands";
+    refused("```sh", "```", ["D.md:19:", marker, "```"]);
+    let block = "a block under its marker";
+    let lone = "<!-- figures: slots of A -->";
+    refused("## Part", "<!-- figures: slots of A -->\n## Part", ["D.md:13:", block, lone]);
+    refused(
+        "figures 3\n```\n",
+        "figures 3\n",
+        ["D.md:19:", "a fence that ends the block", "```sh"],
+    );
+    let unmarked = faults_of(&SHOWN.replace("<!-- figures: slots of A -->\n", ""));
+    assert!(unmarked[0].contains(marker) && unmarked[1].contains("block \"slots of A\""));
+}
+
+/// A section that is gone leaves its phrases without a document.
+#[test]
+fn figures_that_nobody_shows() {
+    let part = SHOWN.find("## Part").unwrap_or(0);
+    let faults = faults_of(&SHOWN[..part]);
+    assert_eq!(faults.len(), 2);
+    assert!(faults[0].contains("a document that shows: \"At slot 6 it is 128\" in \"Part\""));
+}
+
+/// The bytes of a text that are digits and no numbers of cited sections.
+fn digits(text: &str) -> Vec<usize> {
+    let path = "docs/RULES.md";
+    let cites = |(at, _): (usize, &str)| {
+        let from = at + path.len();
+        from..from + cited(&text[from..])
+    };
+    let citations: Vec<Range<usize>> = text.match_indices(path).map(cites).collect();
+    let digit = |at: &usize| text.as_bytes()[*at].is_ascii_digit();
+    let free = |at: &usize| !citations.iter().any(|range| range.contains(at));
+    (0..text.len()).filter(digit).filter(free).collect()
+}
+
+/// The faults of a document of the repository that stand in it.
+fn own_faults(text: &str, figures: &Figures) -> usize {
+    let document = Document { name: String::from("own"), text: String::from(text) };
+    let faults = faults(&[document], figures);
+    faults.iter().filter(|fault| fault.to_string().starts_with("own:")).count()
+}
+
+/// A document shows its figures, and no longer does if any digit is another one.
+fn each_digit_is_held(text: &str, figures: &Figures, least: usize) {
+    assert_eq!(own_faults(text, figures), 0);
+    let digits = digits(text);
+    assert!(digits.len() > least, "{} digits", digits.len());
+    for at in digits {
+        let digit = text.as_bytes()[at] - b'0';
+        let other = (digit + 1) % 10;
+        let changed = format!("{}{other}{}", &text[..at], &text[at + 1..]);
+        assert!(own_faults(&changed, figures) > 0, "{}", &text[at..]);
+    }
+}
+
+/// No digit of the dictionary and of docs/WORKED.md can be changed without being refused.
+#[test]
+fn every_digit_of_the_documents() {
+    let figures = Figures::of_documents();
+    each_digit_is_held(include_str!("../../docs/DICTIONARY.md"), &figures, 800);
+    each_digit_is_held(include_str!("../../docs/WORKED.md"), &figures, 150);
+}

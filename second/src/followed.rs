@@ -1,0 +1,132 @@
+//! The figures of docs/WORKED.md and of README.md: cases A and B, from their bytes to their lines.
+
+use crate::cases::request_a;
+use crate::change::AREA;
+use crate::figures::{code, hexadecimal, list, list_and, thousands, Figures};
+use crate::frames::{frame, print_lines, LONGEST_FRAME};
+use crate::numbers::ACCEPTED;
+use crate::records::{longest_field, slot_field, HEAD};
+use crate::slots::room;
+use crate::timetable::{Listing, CYCLE};
+use crate::worked::{
+    answer_b, asked_a, asked_b, bytes_b, ids, offsets, run_a, run_b, share, shortfalls,
+    slots_block, DETECTOR, LAST_SHOWN, PUMP_LOOP, VALVE,
+};
+
+/// The figures of both documents.
+pub fn add_to(figures: &mut Figures) {
+    figures.whole.push(String::from("One request followed"));
+    figures.block("lines of A and B", lines().join("\n"));
+    figures.block("slots of A", slots_block(&run_a(), 7));
+    figures.block("slots of A and B", slots_block(&run_b(), LAST_SHOWN));
+    add_worked_change(figures);
+    add_reading(figures);
+    add_search(figures);
+    add_answer(figures);
+    add_readme(figures);
+}
+
+/// The lines that cases A and B are answered with.
+fn lines() -> Vec<String> {
+    let input = [frame(&request_a()), frame(&bytes_b())].concat();
+    let mut output = Vec::new();
+    let printed = print_lines(&mut &input[..], &mut output);
+    let text = if printed.is_ok() { String::from_utf8_lossy(&output) } else { "".into() };
+    text.lines().map(String::from).collect()
+}
+
+/// One slot in each period, with a bound, of an id that is listed.
+fn asks(listing: &Listing, id: u8, between: &str) -> String {
+    let share = share(listing, id);
+    format!("one slot in {}{between} with bound {}", share.period, share.bound)
+}
+
+/// "A worked change": what is asked, the shortfalls, and the schedule.
+fn add_worked_change(figures: &mut Figures) {
+    let section = "A worked change";
+    let (a, b) = (run_a().present(), run_b().present());
+    let (asked_a, asked_b) = (asked_a(), asked_b());
+    let each = asks(&asked_a.listing, PUMP_LOOP, "");
+    let (slot, first) = (asked_a.slot, list_and(ids(&asked_a.listing)));
+    figures.phrase(section, format!("at slot {slot} for ids {first}, each {each}"));
+    let offset = |id: u8| a.entries[usize::from(id)].offset;
+    let (of_pump, of_detector) = (offset(PUMP_LOOP), offset(DETECTOR));
+    let gets =
+        format!("id {PUMP_LOOP} gets offset {of_pump} and id {DETECTOR} offset {of_detector}");
+    figures.phrase(section, gets);
+    let (slot, third) = (asked_b.slot, asks(&asked_b.listing, VALVE, ","));
+    figures.phrase(section, format!("At slot {slot} a third id, {VALVE}, asks for {third}"));
+    let there = list_and(shortfalls(&run_b(), &asked_b.listing, slot));
+    figures.phrase(section, format!("shortfalls there are {there} {CYCLE}ths of a slot"));
+    let (passed, urgent) = (list(0..b.length), list(b.transition()));
+    figures.phrase(section, format!("from slot {slot} on, so length {passed} is passed over"));
+    figures.phrase(section, format!("slot {slot} goes to id {urgent}, the most urgent"));
+    let placed = list_and(offsets(&b));
+    figures.phrase(section, format!("from slot {} on offsets {placed} keep every bound", b.base));
+}
+
+/// "Follow one request": the frame, its fields, and the stages before the search.
+fn add_reading(figures: &mut Figures) {
+    let section = "Follow one request";
+    let (bytes, asked) = (bytes_b(), asked_b());
+    let head = code(&frame(&bytes)[..HEAD]);
+    let holds = format!("{head}: {} bytes", bytes.len());
+    figures.cell(section, "a frame holds the request", holds);
+    let (slot, longest) = (slot_field(asked.slot), longest_field(asked.longest));
+    let shares = slot.len() + longest.len();
+    let shares = hexadecimal(&bytes[shares..=shares]);
+    let shares = format!("`{shares} ..`: ids {}", list(ids(&asked.listing)));
+    let (slot, longest) = (ends(&slot), ends(&longest));
+    let fields = format!("{slot}: slot {}; {longest}: T {}; {shares}", asked.slot, asked.longest);
+    figures.cell(section, "its fields are read", fields);
+    let row = "the timetable is sound, the area long enough, the slot not before the base";
+    figures.cell(section, row, format!("base {}, slot {}", run_a().present().base, asked.slot));
+}
+
+/// The first byte of a field and its last.
+fn ends(field: &[u8]) -> String {
+    format!("`{} .. {}`", hexadecimal(&field[..1]), hexadecimal(&field[field.len() - 1..]))
+}
+
+/// "Follow one request": the shortfalls, the rooms, the lengths and the placement.
+fn add_search(figures: &mut Figures) {
+    let section = "Follow one request";
+    let (asked, b) = (asked_b(), run_b().present());
+    let at_request = shortfalls(&run_b(), &asked.listing, asked.slot);
+    let shares = ids(&asked.listing).into_iter().map(|id| share(&asked.listing, id));
+    let rooms = list(at_request.iter().zip(shares).map(|(&owed, share)| room(owed, share)));
+    figures.cell(section, "the shortfalls at the request slot", list(&at_request));
+    let passed = list(0..b.length);
+    figures.cell(
+        section,
+        "a length has no placement, and is passed over",
+        format!("length {passed}"),
+    );
+    let urgent = list(b.transition());
+    let goes = format!("rooms {rooms}: slot {} to id {urgent}", asked.slot);
+    figures.cell(section, "the next slot goes to the most urgent", goes);
+    let placed = format!("length {}: base {}, offsets {}", b.length, b.base, list(offsets(&b)));
+    figures.cell(section, "a length has a placement", placed);
+    figures.phrase(section, format!("at most {AREA} bytes"));
+}
+
+/// "Follow one request": the record, what is returned, and the line.
+fn add_answer(figures: &mut Figures) {
+    let section = "Follow one request";
+    let (outcome, record) = answer_b();
+    let written = format!("{} bytes: {}", outcome.written, code(&record));
+    figures.cell(section, "the answer record is written", written);
+    let returned = format!("{}, {}, {}", outcome.number, outcome.place, outcome.tries);
+    figures.cell(section, "number, place, tries and the new timetable are returned", returned);
+    let last = lines().pop().unwrap_or_default();
+    figures.cell(section, "the line is printed", format!("`{last}`"));
+}
+
+/// README.md: what stands around the lines of cases A and B.
+fn add_readme(figures: &mut Figures) {
+    let section = "Two commands";
+    figures.phrase(section, format!("its number ({ACCEPTED}: accepted)"));
+    figures.phrase(section, format!("a length above {}", thousands(LONGEST_FRAME)));
+    figures.phrase(section, format!("a number other than {ACCEPTED}"));
+    figures.phrase(section, "`N passed, 0 failed`");
+}

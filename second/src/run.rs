@@ -1,0 +1,113 @@
+//! The run of slots that accepted timetables make, one after another: who has each slot, who is
+//! newly listed in it, and each id's entitlement, supply and shortfall, slot by slot.
+
+use crate::change::{change, AREA};
+use crate::queries::owner_query;
+use crate::slots::next_shortfall;
+use crate::timetable::{Share, Timetable, CYCLE};
+use std::ops::Range;
+
+/// The timetables that were accepted, the last one last; before them the empty one is in force.
+#[derive(Clone)]
+pub struct Run {
+    accepted: Vec<Timetable>,
+}
+
+impl Run {
+    /// The run before any request.
+    pub fn empty() -> Run {
+        Run { accepted: Vec::new() }
+    }
+
+    /// The run after one more request; a refused one changes nothing.
+    pub fn after(&self, request: &[u8]) -> Run {
+        let outcome = change(&self.present(), request, &mut [0; AREA]);
+        if outcome.number == 0 {
+            self.with(outcome.timetable)
+        } else {
+            self.clone()
+        }
+    }
+
+    /// The run with one more timetable, taken as accepted.
+    pub fn with(&self, timetable: Timetable) -> Run {
+        Run { accepted: [&self.accepted[..], &[timetable]].concat() }
+    }
+
+    /// The timetable that the next request meets.
+    pub fn present(&self) -> Timetable {
+        self.accepted.last().copied().unwrap_or(Timetable::empty())
+    }
+
+    /// The timetable in force in a slot: the last accepted of those with a request slot up to it.
+    pub fn in_force(&self, slot: u64) -> Timetable {
+        let up_to = self.accepted.iter().rev().find(|timetable| timetable.request_slot <= slot);
+        up_to.copied().unwrap_or(Timetable::empty())
+    }
+
+    /// The owner of a slot, or 255 for idle.
+    pub fn owner(&self, slot: u64) -> u8 {
+        owner_query(&self.in_force(slot), slot).1
+    }
+
+    /// An id's share in a slot, if it is listed there.
+    fn share(&self, id: u8, slot: u64) -> Option<Share> {
+        self.in_force(slot).listing()[usize::from(id)]
+    }
+
+    /// An id's weight in a slot, 0 if it is not listed.
+    pub fn weight(&self, id: u8, slot: u64) -> i64 {
+        self.share(id, slot).map_or(0, |share| share.weight())
+    }
+
+    /// An id is newly listed at a slot: a timetable accepted for it lists the id, and the one
+    /// before did not, or had it newly listed at the same slot.
+    pub fn newly_listed(&self, id: u8, slot: u64) -> bool {
+        newly(&self.accepted, id, slot)
+    }
+
+    /// An id's shortfall at the start of a slot: the slots from 0 pass one by one.
+    pub fn shortfall(&self, id: u8, slot: u64) -> i64 {
+        (0..slot).fold(0, |shortfall, passed| {
+            let own = self.owner(passed) == id;
+            let over = next_shortfall(shortfall, self.weight(id, passed), own);
+            if self.newly_listed(id, passed + 1) {
+                0
+            } else {
+                over
+            }
+        })
+    }
+
+    /// An id's entitlement over a window: the sum of its weights.
+    pub fn entitlement(&self, id: u8, window: Range<u64>) -> i64 {
+        window.map(|slot| self.weight(id, slot)).sum()
+    }
+
+    /// The own slots of an id in a window.
+    pub fn own_slots(&self, id: u8, window: Range<u64>) -> Vec<u64> {
+        window.filter(|&slot| self.owner(slot) == id).collect()
+    }
+
+    /// An id's supply over a window: the number of its own slots.
+    pub fn supply(&self, id: u8, window: Range<u64>) -> i64 {
+        self.own_slots(id, window).len() as i64
+    }
+
+    /// A window's excess: its entitlement less 256 times its supply.
+    pub fn excess(&self, id: u8, window: Range<u64>) -> i64 {
+        self.entitlement(id, window.clone()) - CYCLE as i64 * self.supply(id, window)
+    }
+}
+
+/// Whether an id is newly listed at a slot, by the timetables accepted so far.
+fn newly(accepted: &[Timetable], id: u8, slot: u64) -> bool {
+    let Some((last, before)) = accepted.split_last() else {
+        return false;
+    };
+    if last.request_slot > slot {
+        return newly(before, id, slot);
+    }
+    let was_listed = before.last().is_some_and(|timetable| timetable.lists(id));
+    last.request_slot == slot && last.lists(id) && (!was_listed || newly(before, id, slot))
+}
