@@ -41,7 +41,7 @@ fn request_j() -> Vec<u8> {
 }
 
 /// Case J's request with a later id of period 256 too.
-fn request_j_overfull() -> Vec<u8> {
+pub fn request_j_overfull() -> Vec<u8> {
     record(0, 0, &[(4, 0, 1), (9, 8, 1)])
 }
 

@@ -1,14 +1,15 @@
 //! The figures of docs/DICTIONARY.md, section by section.
 
-use crate::cases::all_listed;
-use crate::change::AREA;
+use crate::cases::{all_listed, record, request_b, request_d, request_j_overfull};
+use crate::change::{Outcome, AREA};
 use crate::figures::{aligned, code, list, list_and, thousands, Figures};
 use crate::frames::{frame, LONGEST_FRAME, TAG_FRAME};
 use crate::numbers;
 use crate::probe::{image_of, IMAGE};
-use crate::queries::standing_query;
+use crate::queries::{owner_query, standing_query};
 use crate::records::{
-    longest_field, share_field, slot_field, write_answer, HEAD, TAG_LENGTH, TAG_OFFSET, TAG_OWNERS,
+    longest_field, share_field, slot_field, write_answer, HEAD, TAG_LENGTH, TAG_LONGEST,
+    TAG_OFFSET, TAG_OWNERS, TAG_SHARE, TAG_SLOT,
 };
 use crate::run::Run;
 use crate::slots::{last_offset, room};
@@ -17,8 +18,8 @@ use crate::timetable::{
     LONGEST_TRANSITION,
 };
 use crate::worked::{
-    anew, answer_b, answer_e, answered, asked_a, asked_b, bytes_b, ids, left_and_returned, mark,
-    offsets, run_a, run_b, share, DETECTOR, LAST_SHOWN, PUMP_LOOP, VALVE,
+    anew, answer_b, answer_e, answered, asked, asked_a, asked_b, bytes_b, ids, left_and_returned,
+    mark, offsets, run_a, run_b, share, DETECTOR, LAST_SHOWN, PUMP_LOOP, VALVE,
 };
 use std::mem::size_of_val;
 use std::ops::Range;
@@ -44,6 +45,9 @@ pub fn add_to(figures: &mut Figures) {
     add_answer(figures);
     add_record(figures);
     add_numbers(figures);
+    add_fields_refused(figures);
+    add_early(figures);
+    add_stages_refused(figures);
     add_queries(figures);
     add_line(figures);
 }
@@ -51,9 +55,10 @@ pub fn add_to(figures: &mut Figures) {
 /// The title, and the first entry.
 fn add_head(figures: &mut Figures) {
     let title = "Dictionary of figures";
-    figures.phrase(title, "numbered from 0");
+    let first = Timetable::empty().request_slot;
+    figures.phrase(title, format!("counts them from {first} at its start"));
     let names = format!("{PUMP_LOOP} the pump loop, {DETECTOR} the detector, {VALVE} the valve");
-    figures.phrase(title, format!("ids there are {names}"));
+    figures.phrase(title, format!("ids in A to F are {names}"));
     let section = "Shortfall, called \"deficit\" in the lab's column";
     figures.phrase(section, format!("less {CYCLE} x its supply"));
     figures.phrase(
@@ -63,6 +68,14 @@ fn add_head(figures: &mut Figures) {
     figures.phrase(section, format!("slots of {CYCLE} each. Below {CYCLE} R the bound R is kept"));
     figures.phrase(section, "Slots.antt`: 0 where the partition is newly listed");
     figures.phrase(section, format!("the larger of 0 and (shortfall + weight - {CYCLE} if"));
+    let b = run_b().present();
+    figures.phrase(section, format!("(B: slot {})", list(b.request_slot..b.base)));
+    let refused = standing_query(&b, PUMP_LOOP, b.request_slot).0;
+    figures.phrase(section, format!("the standing query is refused {refused} there"));
+    let told = |id: u8| standing_query(&run_a().present(), id, b.request_slot).1;
+    let before = list_and([told(PUMP_LOOP), told(DETECTOR)]);
+    let newly = run_b().shortfall(VALVE, b.request_slot);
+    figures.phrase(section, format!("before the change (B: {before}; newly listed: {newly})"));
 }
 
 /// The windows of the pump loop that end at case B's slot, from the longest to the empty one.
@@ -236,6 +249,8 @@ fn add_words(figures: &mut Figures) {
     let last = run.own_slots(PUMP_LOOP, 0..slot).pop().unwrap_or(0);
     let window = format!("A: {}, id {PUMP_LOOP}", slots(&(last + 1..slot)));
     figures.cell(section, "window", window);
+    let (of_a, of_b) = (list(ids(&asked_a().listing)), list(ids(&asked_b().listing)));
+    figures.cell(section, "listed", format!("A: ids {of_a}; B: ids {of_b}"));
     figures.phrase(section, format!("idle, owner {IDLE} "));
     figures.phrase(section, format!("told as {IDLE}, which is no id"));
     let idle = format!("A: slot {}: {}", last + 1, run.owner(last + 1));
@@ -310,7 +325,8 @@ fn add_shares(figures: &mut Figures) {
     figures.phrase(PARTITION, format!("which partition | 0 to {}", IDS - 1));
     figures.cell(PARTITION, "id", format!("{DETECTOR}, the detector"));
     let periods = format!("slots, 1 to {}", 1 << LARGEST_EXPONENT);
-    figures.phrase(PARTITION, format!("one slot in every 2^k | {periods}"));
+    let ranges = format!("k: 0 to {LARGEST_EXPONENT}; period: {periods}");
+    figures.phrase(PARTITION, format!("one slot in every 2^k | {ranges}"));
     figures.cell(PARTITION, "k, period", format!("k {k}: period {period}"));
     figures.phrase(
         PARTITION,
@@ -397,6 +413,12 @@ fn add_image(figures: &mut Figures) {
     let own = [size_of_val(&entry.period), 1, 1, size_of_val(&entry.shortfall)];
     let size: usize = own.iter().sum();
     figures.phrase(section, format!("an image of {IMAGE} bytes"));
+    let mut empty = image_of(&Timetable::empty());
+    let size_of_empty = empty.len();
+    empty.dedup();
+    figures.phrase(section, format!("makes any {size_of_empty} bytes the image"));
+    figures.phrase(section, format!("timetable, which is {} throughout", list(empty)));
+    figures.phrase(section, format!("are refused {} by every function", numbers::NOT_SOUND));
     figures.phrase(section, format!("| request slot | {slot} |"));
     let bytes = |from: usize, size: usize| {
         format!("bytes {from} to {}: {}", from + size - 1, code(&image[from..from + size]))
@@ -430,7 +452,7 @@ fn add_frame(figures: &mut Figures) {
     figures.phrase(section, format!("the tag of a frame | {TAG_FRAME:x} hex"));
     figures.cell(section, "first byte", code(&head[..1]));
     let range = format!("0 to {} bytes", thousands(LONGEST_FRAME));
-    figures.phrase(section, format!("the length of the content | {range}"));
+    figures.phrase(section, format!("the length of the content, high byte first | {range}"));
     let length = format!("{}: {} bytes", code(&head[1..]), content.len());
     figures.cell(section, "two bytes", length);
     figures.cell(section, "content", code(content));
@@ -445,6 +467,9 @@ fn add_request(figures: &mut Figures) {
     let full = share_field(VALVE, exponent(VALVE), share(&asked.listing, VALVE).bound, false);
     let short = share_field(PUMP_LOOP, exponent(PUMP_LOOP), bound(PUMP_LOOP), true);
     let ranges = format!("{ids}, {exponents}, 1 to {LARGEST_BOUND}");
+    let required = format!("one field {TAG_SLOT:02x}, then one field {TAG_LONGEST:02x}");
+    let listed = format!("0 to {IDS} fields {TAG_SHARE:02x}");
+    figures.phrase(section, format!("A request is {required}, then {listed}, and nothing"));
     let fields = [
         (slot_field(asked.slot), format!("request slot | 0 to {}", highest_slot())),
         (
@@ -465,11 +490,19 @@ fn add_request(figures: &mut Figures) {
 fn add_answer(figures: &mut Figures) {
     let section = "An answer";
     let (outcome, last) = (answer_b().0, numbers::SHORTFALL_TOO_LARGE);
+    let first = format!("one field {TAG_LENGTH:x}, then one field {TAG_OWNERS:x}");
+    figures.phrase(section, format!("The record is {first}, then a field {TAG_OFFSET:x}"));
+    let (_, nothing) = answered(&Run::empty(), &record(0, 0, &[]));
+    let owners = nothing.get(HEAD + 3).copied().unwrap_or(u8::MAX);
+    figures.phrase(section, format!("{TAG_OWNERS:x} is there with length {owners} too"));
+    figures.phrase(section, format!("one that lists nothing (I) is {}", code(&nothing)));
     figures.phrase(section, format!("number | {} accepted", numbers::ACCEPTED));
     figures.cell(section, "number", outcome.number);
     figures.phrase(section, "byte, id or 0");
     figures.cell(section, "place", outcome.place);
-    let none = format!("included; 0 with {} to {last}", numbers::NOT_SOUND);
+    let more = outcome.tries - u16::from(run_b().present().length);
+    figures.phrase(section, format!("the transition length + {more} if accepted"));
+    let none = format!("0 with {} to {last}", numbers::NOT_SOUND);
     figures.phrase(section, format!("{none} | lengths, at most T + 1"));
     let lengths = list_and(0..outcome.tries);
     figures.cell(section, "tries", format!("{} (lengths {lengths})", outcome.tries));
@@ -520,6 +553,105 @@ fn add_numbers(figures: &mut Figures) {
     figures.phrase(section, format!("(within a field {within}), then {last}."));
 }
 
+/// The outcome of a request that meets the last timetable of a run.
+fn outcome(run: &Run, request: &[u8]) -> Outcome {
+    answered(run, request).0
+}
+
+/// The number and the place of a request's outcome.
+fn number_at(run: &Run, request: &[u8]) -> String {
+    let Outcome { number, place, .. } = outcome(run, request);
+    format!("{number} at {place}")
+}
+
+/// "What each number says": where bytes are counted from, and the refusals of fields.
+fn add_fields_refused(figures: &mut Figures) {
+    use numbers::*;
+    let section = "What each number says";
+    let empty = Run::empty();
+    let first = outcome(&empty, &[]).place;
+    figures.phrase(section, format!("counts from {first} at the start of the request"));
+    let head = frame(&bytes_b()).len() - bytes_b().len();
+    let fields = format!("place {first} with {WRONG_FIELD} or {OUT_OF_RANGE} is the first field");
+    figures.phrase(section, format!("whose head has {head} bytes more: {fields}"));
+    figures.phrase(section, format!("with {SHORTFALL_TOO_LARGE} it is id {first}"));
+    figures.phrase(section, format!("The base and the request slot of {TOO_EARLY} are those"));
+    figures.phrase(section, format!("| {WRONG_FIELD} | the field that begins at the place"));
+    let (none, one) = (number_at(&empty, &[]), number_at(&empty, &slot_field(0)));
+    let ends = format!("a record that ends after its first field: {one}");
+    figures.cell(section, WRONG_FIELD, format!("an empty record: {none}; {ends}"));
+    figures.phrase(section, format!("| {OUT_OF_RANGE} | a value in the field that begins"));
+    let (slot, longest) = (LAST_SLOT + 1, LONGEST_TRANSITION as u8 + 1);
+    let late = number_at(&empty, &record(slot, 0, &[]));
+    let long = number_at(&empty, &record(0, longest, &[]));
+    let ranges = format!("slot 2^{}: {late}; T {longest}: {long}", slot.trailing_zeros());
+    figures.cell(section, OUT_OF_RANGE, ranges);
+    figures.phrase(section, format!("| {ID_NOT_RISING} | the field that begins at the place"));
+    let twice = number_at(&empty, &record(0, 0, &[(PUMP_LOOP, 2, 1), (PUMP_LOOP, 2, 1)]));
+    figures.cell(section, ID_NOT_RISING, format!("id {PUMP_LOOP} twice: {twice}"));
+}
+
+/// What comes of a slot: refused by its number, or not.
+fn comes_of(slot: u64, number: u8, otherwise: &str) -> String {
+    match number {
+        numbers::ACCEPTED => format!("slot {slot} {otherwise}"),
+        _ => format!("slot {slot} refused {number}"),
+    }
+}
+
+/// "What each number says": what is too early after case B, by one slot and not.
+fn add_early(figures: &mut Figures) {
+    let section = "What each number says";
+    let (run, early) = (run_b(), numbers::TOO_EARLY);
+    let Timetable { request_slot, base, .. } = run.present();
+    let around = |first: u64, otherwise: &str, number: &dyn Fn(u64) -> u8| {
+        [first - 1, first].map(|slot| comes_of(slot, number(slot), otherwise)).join("; ")
+    };
+    let longest = LONGEST_TRANSITION as u8;
+    let request = |slot: u64| outcome(&run, &request_b(slot, longest)).number;
+    let owner = |slot: u64| owner_query(&run.present(), slot).0;
+    let standing = |slot: u64| standing_query(&run.present(), VALVE, slot).0;
+    let mut row = |asked: &str, after: String, slots: String| {
+        figures.phrase(section, format!("| {early}, {asked} | its slot is before"));
+        figures.cell(section, format!("{early}, {asked}"), format!("{after}: {slots}"));
+    };
+    let slots = around(base, "accepted", &request);
+    row("a request", format!("F, after B (base {base})"), slots);
+    let slots = around(request_slot, "answered", &owner);
+    row("an owner query", format!("after B (request slot {request_slot})"), slots);
+    let slots = around(base, "answered", &standing);
+    row("a standing query", format!("after B (base {base}), id {VALVE}"), slots);
+}
+
+/// "What each number says": the refusals of the later stages, and an id that is not listed.
+fn add_stages_refused(figures: &mut Figures) {
+    use numbers::*;
+    let section = "What each number says";
+    figures.phrase(section, format!("| {OVERFULL} | the weights that the request asks"));
+    figures.phrase(section, format!("are above {CYCLE} |"));
+    let (request, listing) = (request_j_overfull(), asked(&request_j_overfull()).listing);
+    let weights = list_and(ids(&listing).iter().map(|&id| share(&listing, id).weight()));
+    let sum = format!("ids {}, weights {weights}", list_and(ids(&listing)));
+    figures.cell(section, OVERFULL, format!("J: {sum}: {}", number_at(&Run::empty(), &request)));
+    figures.phrase(section, format!("| {SHORTFALL_TOO_LARGE} | the shortfall of the id"));
+    let (run, request) = (run_b(), request_d(8, LONGEST_TRANSITION as u8));
+    let (slot, bound) = (asked(&request).slot, share(&asked(&request).listing, VALVE).bound);
+    let has = format!("id {VALVE} has {} and asks R {bound}", run.shortfall(VALVE, slot));
+    let behind = format!("D, after B at slot {slot}: {has}: {}", number_at(&run, &request));
+    figures.cell(section, SHORTFALL_TOO_LARGE, behind);
+    figures.phrase(section, format!("| {NO_SCHEDULE} | tries T + 1: every length"));
+    let in_vain = |longest: u8, Outcome { number, tries, .. }: Outcome| {
+        format!("with T {longest}: {number}, tries {tries}")
+    };
+    let (none, most) = (0, LONGEST_TRANSITION as u8);
+    let of_c = in_vain(none, outcome(&run_a(), &request_b(asked_b().slot, none)));
+    figures.cell(section, NO_SCHEDULE, format!("C {of_c}; E {}", in_vain(most, answer_e(most))));
+    figures.phrase(section, format!("| {NOT_LISTED} | the timetable that was accepted last"));
+    let (other, base) = (VALVE + 1, run.present().base);
+    let number = standing_query(&run.present(), other, base).0;
+    figures.cell(section, NOT_LISTED, format!("after B, id {other}, slot {base}: {number}"));
+}
+
 /// "The queries", after case B.
 fn add_queries(figures: &mut Figures) {
     let section = "The queries";
@@ -528,13 +660,18 @@ fn add_queries(figures: &mut Figures) {
     let owners: Vec<String> =
         slots.map(|slot| format!("slot {slot}: {}", run.owner(slot))).collect();
     figures.phrase(section, format!("place 0, the owner or {IDLE} for idle"));
-    let row = "owner (slot), from the last request slot on";
+    let row = "owner (slot), from the request slot on";
     figures.cell(section, row, owners.join("; "));
     figures.phrase(section, "place 0, shortfall at the slot's start");
     let slot = run.present().base + 1;
     let (_, owed, slices) = standing_query(&run.present(), VALVE, slot);
     let standing = format!("id {VALVE}, slot {slot}: {owed}, {slices} slices");
     figures.cell(section, "standing (id, slot), from the base on", standing);
+    use numbers::{NOT_LISTED, NOT_SOUND, OUT_OF_RANGE, TOO_EARLY};
+    let range = format!("a slot above {} or an id above {}", highest_slot(), IDS - 1);
+    let stages = format!("They refuse {NOT_SOUND}; then {OUT_OF_RANGE}, {range}");
+    figures.phrase(section, format!("{stages}; then {TOO_EARLY}; the standing"));
+    figures.phrase(section, format!("query then {NOT_LISTED}."));
 }
 
 /// "A line of the program".
@@ -542,5 +679,9 @@ fn add_line(figures: &mut Figures) {
     let section = "A line of the program";
     figures.phrase(section, "the ordinal counts requests from 1");
     figures.phrase(section, "length, 0 if refused");
+    use numbers::{AREA_TOO_SMALL, NOT_LISTED, NOT_SOUND};
+    let never = format!("{NOT_SOUND}, {AREA_TOO_SMALL} and {NOT_LISTED} never appear");
+    figures.phrase(section, never);
+    figures.phrase(section, format!("its area has {AREA} bytes, and {NOT_LISTED} is a query's"));
     figures.phrase(section, format!("a length above {}", thousands(LONGEST_FRAME)));
 }

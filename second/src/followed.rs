@@ -60,9 +60,12 @@ fn add_worked_change(figures: &mut Figures) {
     figures.phrase(section, format!("shortfalls there are {there} {CYCLE}ths of a slot"));
     let (passed, urgent) = (list(0..b.length), list(b.transition()));
     figures.phrase(section, format!("from slot {slot} on, so length {passed} is passed over"));
-    figures.phrase(section, format!("slot {slot} goes to id {urgent}, the most urgent"));
-    let placed = list_and(offsets(&b));
-    figures.phrase(section, format!("from slot {} on offsets {placed} keep every bound", b.base));
+    let (length, transition) = (b.length, list(b.request_slot..b.base));
+    figures.phrase(section, format!("With length {length} the transition is slot {transition}"));
+    figures.phrase(section, format!("which goes to id {urgent}, the most urgent"));
+    let (base, placed) = (b.base, list_and(offsets(&b)));
+    let from = format!("from the base, slot {base}, on offsets {placed} keep every bound");
+    figures.phrase(section, from);
 }
 
 /// "Follow one request": the frame, its fields, and the stages before the search.

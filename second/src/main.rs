@@ -12,6 +12,7 @@ use second_model::frames::{frame, print_lines, print_probes};
 use second_model::generate::Generator;
 use second_model::probes::Probes;
 use std::io::{self, BufWriter, Write};
+use std::num::IntErrorKind;
 use std::process::ExitCode;
 
 const USAGE: &str = "\
@@ -25,46 +26,52 @@ second probe-counts SEED COUNT  how often each answer comes in those probes
 second figures                  the figures that the documents show, worked out
 second figures FILE..           whether the documents show them";
 
-/// The command that the arguments name is run; anything else shows how the program is used.
+/// The command that the arguments name is run; where they name none, it is said what is wrong.
 fn main() -> ExitCode {
     let arguments: Vec<String> = std::env::args().skip(1).collect();
     let words: Vec<&str> = arguments.iter().map(String::as_str).collect();
-    let done = match words[..] {
-        ["lines"] => Some(lines()),
-        ["cases"] => Some(write_frames(cases::requests())),
-        ["answers"] => Some(answers()),
-        ["figures"] => Some(print_figures()),
-        ["figures", ref files @ ..] => Some(check_figures(files)),
-        [command, seed, count] => numbers(seed, count).and_then(|of| random(command, of)),
-        _ => None,
-    };
-    match done {
-        Some(Ok(())) => ExitCode::SUCCESS,
-        Some(Err(error)) => {
+    match run(&words) {
+        Ok(Ok(())) => ExitCode::SUCCESS,
+        Ok(Err(error)) => {
             let _ = writeln!(io::stderr(), "second: {error}");
             ExitCode::FAILURE
         }
-        None => {
-            let _ = writeln!(io::stderr(), "{USAGE}");
+        Err(wrong) => {
+            let _ = writeln!(io::stderr(), "{wrong}");
             ExitCode::from(2)
         }
     }
 }
 
-/// A command on random streams is run, if it is one.
-fn random(command: &str, of: (u64, u64)) -> Option<io::Result<()>> {
-    match command {
-        "generate" => Some(generate(of)),
-        "counts" => Some(counts(of)),
-        "probes" => Some(probes(of)),
-        "probe-counts" => Some(probe_counts(of)),
-        _ => None,
+/// What came of the command that the words name; or what is wrong with them.
+fn run(words: &[&str]) -> Result<io::Result<()>, String> {
+    match *words {
+        ["lines"] => Ok(lines()),
+        ["cases"] => Ok(write_frames(cases::requests())),
+        ["answers"] => Ok(answers()),
+        ["figures"] => Ok(print_figures()),
+        ["figures", ref files @ ..] => Ok(check_figures(files)),
+        ["generate", seed, count] => Ok(generate(numbers(seed, count)?)),
+        ["counts", seed, count] => Ok(counts(numbers(seed, count)?)),
+        ["probes", seed, count] => Ok(probes(numbers(seed, count)?)),
+        ["probe-counts", seed, count] => Ok(probe_counts(numbers(seed, count)?)),
+        _ => Err(String::from(USAGE)),
     }
 }
 
 /// A seed and a count, if both are numbers.
-fn numbers(seed: &str, count: &str) -> Option<(u64, u64)> {
-    Some((seed.parse().ok()?, count.parse().ok()?))
+fn numbers(seed: &str, count: &str) -> Result<(u64, u64), String> {
+    Ok((number("SEED", seed)?, number("COUNT", count)?))
+}
+
+/// A number by its name in the usage; one that is too large is named, any other word shows the usage.
+fn number(name: &str, word: &str) -> Result<u64, String> {
+    word.parse().map_err(|error: std::num::ParseIntError| match error.kind() {
+        IntErrorKind::PosOverflow => {
+            format!("second: {name} {word} is too large: it is at most {}", u64::MAX)
+        }
+        _ => String::from(USAGE),
+    })
 }
 
 /// Each request on standard input is answered with its line.

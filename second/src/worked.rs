@@ -1,4 +1,4 @@
-//! Cases A, B and E as the documents work them through: what is asked, and the runs they make.
+//! The cases as the documents work them through: what is asked, and the runs they make.
 
 use crate::cases::{record, request_a, request_b, request_d};
 use crate::change::{change, Outcome, AREA};
@@ -21,7 +21,7 @@ pub fn bytes_b() -> Vec<u8> {
 }
 
 /// What a case's request asks; one that cannot be read asks for nothing.
-fn asked(request: &[u8]) -> Request {
+pub fn asked(request: &[u8]) -> Request {
     read_request(request).unwrap_or(Request { slot: 0, longest: 0, listing: [None; IDS] })
 }
 
