@@ -1,5 +1,5 @@
-/* The library from C, as a firmware calls it: cases A and B (docs/RULES.md 11.A and 11.B), each number of the header once, a dispatcher
- * beside a task that changes the timetable, and a stored image. See include/tarnflaw.h. Compiles as C99 and as C++11. */
+/* The library as a firmware uses it: a dispatcher beside a task that changes the timetable by cases A and B (docs/RULES.md 11.A and 11.B), and a
+ * stored image at a start. The interrupts are plain calls here. See include/tarnflaw.h. Compiles as C99 and as C++11. */
 #include <signal.h>
 #include <stdio.h>
 #include <string.h>
@@ -14,66 +14,72 @@
 static const uint8_t case_a[] = { SLOT(0), LIMIT(0), LIST(0, 2, 1), LIST(1, 2, 1) };
 static const uint8_t case_b[] = { SLOT(6), LIMIT(1), LIST(0, 2, 1), LIST(1, 2, 1), LIST(2, 1, 2) };
 static const uint8_t case_c[] = { SLOT(6), LIMIT(0), LIST(0, 2, 1), LIST(1, 2, 1), LIST(2, 1, 2) };
-static const uint8_t case_d[] = { SLOT(8), LIMIT(0), LIST(0, 2, 1), LIST(1, 2, 1), LIST(2, 1, 1) };
-static const uint8_t case_j[] = { SLOT(8), LIMIT(0), LIST(0, 0, 1), LIST(7, 8, 1) };
-static const uint8_t cut[] = { SLOT(8) };
-static const uint8_t long_t[] = { SLOT(8), LIMIT(65) };
-static const uint8_t twice[] = { SLOT(8), LIMIT(0), LIST(4, 2, 1), LIST(4, 2, 1) };
+static const uint8_t past[] = { SLOT(8), LIMIT(0), LIST(0, 2, 1), LIST(1, 2, 1) };
+static const uint8_t ahead[] = { SLOT(12), LIMIT(0), LIST(0, 2, 1), LIST(1, 2, 1) };
 
-/* Two images. The task writes only the one that is not in force, and swaps them by one store. */
+/* Two images. The task writes the one that is not in force, unless it waits; the dispatcher takes it over at its request slot. */
+enum { TAKEN, WAITING, LATE };
 static uint8_t images[2][TARNFLAW_IMAGE];
-static volatile sig_atomic_t in_force;
-static uint8_t area[TARNFLAW_AREA];
+static volatile sig_atomic_t in_force; /* which of the two; only the dispatcher stores it */
+static volatile sig_atomic_t copy;     /* of the other one: the task stores WAITING, and then the dispatcher TAKEN or LATE */
+static volatile sig_atomic_t refused;  /* the slots that ran idle because the query was refused; only the dispatcher stores it */
 
-/* What a number says. A constant of the header that has no case here is a warning. */
-static const char *says(uint8_t number)
+/* The request slot of an image. */
+static uint64_t request_slot(const uint8_t *image)
 {
-    switch ((enum tarnflaw_number)number) {
-    case TARNFLAW_ACCEPTED: return "accepted";
-    case TARNFLAW_NOT_SOUND: return "not sound";
-    case TARNFLAW_SMALL_AREA: return "small area";
-    case TARNFLAW_BAD_FIELD: return "bad field";
-    case TARNFLAW_OUT_OF_RANGE: return "out of range";
-    case TARNFLAW_NOT_RISING: return "not rising";
-    case TARNFLAW_TOO_EARLY: return "too early";
-    case TARNFLAW_OVERFULL: return "overfull";
-    case TARNFLAW_BEHIND: return "behind";
-    case TARNFLAW_NO_SCHEDULE: return "no schedule";
-    case TARNFLAW_NOT_LISTED: return "not listed";
-    }
-    return "no number of the header";
+    uint64_t slot = 0;
+    int i;
+
+    for (i = 0; i < 8; i++)
+        slot = slot << 8 | image[i];
+    return slot;
 }
 
-/* The dispatcher, called by the interrupt at a slot's start: who has the slot; idle, if that is refused. It ends before the task goes on. */
+/* The dispatcher, called by the interrupt at each slot's start. It takes over a copy that waits for this slot, drops one that waits for a slot
+ * that has passed, and tells who has the slot. It ends before the task goes on. */
 static uint8_t dispatch(uint64_t slot)
 {
     size_t place;
     uint8_t owner;
-    uint8_t number = tarnflaw_owner(images[in_force], TARNFLAW_IMAGE, slot, &place, &owner);
 
-    return number == TARNFLAW_ACCEPTED ? owner : TARNFLAW_IDLE;
+    if (copy == WAITING) {
+        const uint64_t from = request_slot(images[!in_force]);
+        if (slot == from)
+            in_force = !in_force;
+        if (slot >= from)
+            copy = slot == from ? TAKEN : LATE;
+    }
+    if (tarnflaw_owner(images[in_force], TARNFLAW_IMAGE, slot, &place, &owner) == TARNFLAW_ACCEPTED)
+        return owner;
+    refused = refused + 1;
+    return TARNFLAW_IDLE;
 }
 
-/* The task's change, on a copy of the image in force; if it is accepted, the copy comes into force. Returns the bytes of the answer. */
-static size_t change(const char *name, const uint8_t *request, size_t request_size, size_t image_size, size_t area_size)
+/* The task's change, on a copy of the image in force. If it is accepted, the copy waits for its request slot. */
+static void change(const char *name, const uint8_t *request, size_t request_size)
 {
-    const int next = !in_force;
+    uint8_t area[TARNFLAW_AREA];
     size_t place, written;
     uint8_t number, tries;
+    int next;
 
+    if (copy == WAITING) {
+        printf("%s: put off, another change waits\n", name);
+        return;
+    }
+    next = !in_force; /* not before: until here the dispatcher may have stored it */
     memcpy(images[next], images[in_force], TARNFLAW_IMAGE);
-    number = tarnflaw_change(images[next], image_size, request, request_size, area, area_size, &place, &tries, &written);
+    number = tarnflaw_change(images[next], TARNFLAW_IMAGE, request, request_size, area, sizeof area, &place, &tries, &written);
     if (number == TARNFLAW_ACCEPTED)
-        in_force = next;
-    printf("%s: %u %s, place %zu, tries %u, %zu bytes\n", name, number, says(number), place, tries, written);
-    return written;
+        copy = WAITING;
+    printf("%s: %u, place %zu, tries %u, %zu bytes\n", name, number, place, tries, written);
 }
 
-#define CHANGE(name, request) change(name, request, sizeof(request), TARNFLAW_IMAGE, TARNFLAW_AREA)
-
-/* Prints who has the slots from one to another. */
-static void show_slots(uint64_t slot, uint64_t last)
+/* Lets the slots from one to another begin. Prints who has them, what became of the copy, and how many slots were refused. */
+static void run(uint64_t slot, uint64_t last)
 {
+    const sig_atomic_t before = refused;
+
     printf("slots %u to %u:", (unsigned)slot, (unsigned)last);
     for (; slot <= last; slot++) {
         uint8_t owner = dispatch(slot);
@@ -82,65 +88,93 @@ static void show_slots(uint64_t slot, uint64_t last)
         else
             printf(" %u", owner);
     }
-    printf("\n");
+    printf("; copy %s, refused %d\n", copy == WAITING ? "waiting" : copy == LATE ? "late" : "taken", (int)(refused - before));
 }
 
-/* Prints how a partition stands at a slot. */
-static void show_standing(uint8_t id, uint64_t slot)
+/* What the board stores: an image, the version that it belongs to, the next slot, and a checksum over these. */
+struct stored {
+    uint8_t image[TARNFLAW_IMAGE];
+    uint8_t version;
+    uint64_t slot;
+    uint64_t sum;
+};
+
+/* The checksum, a simple one: a firmware has its own. */
+static uint64_t sum_of(const struct stored *s)
 {
+    uint64_t sum = s->slot * 257 + s->version;
+    size_t i;
+
+    for (i = 0; i < TARNFLAW_IMAGE; i++)
+        sum = sum * 257 + s->image[i];
+    return sum;
+}
+
+/* Starts, before the first interrupt: goes on from a stored image at the next slot, or starts empty at slot 0 if anything speaks against it. */
+static void start(const char *name, const struct stored *s)
+{
+    const char *against = NULL;
     size_t place;
-    uint16_t shortfall;
-    uint64_t slices;
-    uint8_t number = tarnflaw_standing(images[in_force], TARNFLAW_IMAGE, id, slot, &place, &shortfall, &slices);
+    uint8_t owner;
 
-    printf("id %u at slot %u: %u %s, shortfall %u, slices %u\n", id, (unsigned)slot, number, says(number), shortfall, (unsigned)slices);
+    if (s->version != TARNFLAW_VERSION)
+        against = "other version";
+    else if (s->sum != sum_of(s))
+        against = "checksum";
+    else if (tarnflaw_owner(s->image, TARNFLAW_IMAGE, s->slot, &place, &owner) != TARNFLAW_ACCEPTED)
+        against = "query refused";
+    in_force = 0;
+    copy = TAKEN;
+    printf("%s: %s, %s\n", name, against ? against : "good", against ? "starts empty" : "goes on");
+    if (against)
+        tarnflaw_empty(images[0], TARNFLAW_IMAGE);
+    else
+        memcpy(images[0], s->image, TARNFLAW_IMAGE);
+    run(against ? 0 : s->slot, against ? 3 : s->slot + 3);
 }
 
-/* Starts from a stored image, which has its version before it; from the empty timetable where that is another version. */
-static void start(const uint8_t *stored)
+/* Starts from a stored image, and from the same with one thing changed. */
+static void starts(struct stored *s)
 {
-    const int next = !in_force;
-    const int same = stored[0] == TARNFLAW_VERSION;
+    struct stored other = *s;
 
-    if (same)
-        memcpy(images[next], stored + 1, TARNFLAW_IMAGE);
-    else
-        tarnflaw_empty(images[next], TARNFLAW_IMAGE);
-    in_force = next;
-    printf("stored by version %u: %s\n", stored[0], same ? "goes on" : "starts empty");
-    show_slots(9, 12);
+    start("stored", s);
+    other.version++;
+    start("by another version", &other);
+    other = *s;
+    other.image[86] = 0;
+    start("byte 86 damaged, which leaves it sound", &other);
+    other.image[86] = s->image[86];
+    other.image[8] = TARNFLAW_LONGEST + 1;
+    other.sum = sum_of(&other);
+    start("not sound, under a right checksum", &other);
+    other = *s;
+    other.slot = 0;
+    other.sum = sum_of(&other);
+    start("with slots counted from 0 again", &other);
 }
 
 int main(void)
 {
-    uint8_t stored[1 + TARNFLAW_IMAGE];
-    uint8_t number = tarnflaw_empty(images[in_force], TARNFLAW_IMAGE);
-    size_t size, i;
+    struct stored s;
 
-    printf("empty: %u %s\n", number, says(number));
-    CHANGE("A", case_a);
-    show_slots(0, 5);
-    CHANGE("C", case_c);
-    size = CHANGE("B", case_b);
-    for (i = 0; i < size; i++)
-        printf("%02x%c", area[i], i + 1 < size ? ' ' : '\n');
-    show_slots(6, 12);
-    show_standing(2, 8);
-    show_standing(5, 8);
+    tarnflaw_empty(images[in_force], TARNFLAW_IMAGE);
+    change("A, for slot 0", case_a, sizeof case_a);
+    run(0, 1);
+    change("C, for slot 6", case_c, sizeof case_c);
+    change("B, for slot 6", case_b, sizeof case_b);
+    change("another, while B waits", ahead, sizeof ahead);
+    run(2, 8);
 
-    CHANGE("F, B once more", case_b);
-    CHANGE("J, after B", case_j);
-    CHANGE("D", case_d);
-    CHANGE("D cut after its slot", cut);
-    CHANGE("D with T 65", long_t);
-    CHANGE("an id twice", twice);
-    change("B in an area of a byte less", case_b, sizeof case_b, TARNFLAW_IMAGE, TARNFLAW_AREA - 1);
-    change("B on an image of a byte less", case_b, sizeof case_b, TARNFLAW_IMAGE - 1, TARNFLAW_AREA);
+    memcpy(s.image, images[in_force], TARNFLAW_IMAGE);
+    s.version = TARNFLAW_VERSION;
+    s.slot = 9;
+    s.sum = sum_of(&s);
 
-    stored[0] = TARNFLAW_VERSION;
-    memcpy(stored + 1, images[in_force], TARNFLAW_IMAGE);
-    start(stored);
-    stored[0]++;
-    start(stored);
+    change("id 2 leaves, for slot 8, which has begun", past, sizeof past);
+    run(9, 10);
+    change("once more, for slot 12", ahead, sizeof ahead);
+    run(11, 15);
+    starts(&s);
     return 0;
 }

@@ -4,26 +4,57 @@
  *
  *     byte          what
  *     0..7          request slot
- *     8             transition length, 0 to 64
- *     9..72         owners of the transition slots, one byte each; unused ones 0
+ *     8             transition length, 0 to TARNFLAW_LONGEST
+ *     9..72         owners, one byte for each transition slot; unused ones 0
  *     73..80        base: request slot + length
- *     81 + 6 * id   for each id, 0 to 31: period (2 bytes), offset, bound R, shortfall at the base in 256ths of a slot (2 bytes);
- *                   all zero where the id is not listed
+ *     81 + 6 * id   period, 2 bytes; 0 where the id is not listed, and then the three below are 0 too
+ *     83 + 6 * id   offset
+ *     84 + 6 * id   bound R
+ *     85 + 6 * id   shortfall at the base, 2 bytes, in 256ths of a slot
  *
- * Start with tarnflaw_empty, and hand the same image to every later call. The image may be copied, stored and sent: nothing else is kept.
+ * Start with tarnflaw_empty, and hand to each later call the image that the last accepted change left. It may be copied, stored and sent:
+ * nothing else is kept. The empty timetable's image is all zero bytes, so memory that was cleared to 0 counts as an empty timetable.
  *
- * Each function returns a number, TARNFLAW_ACCEPTED or the refusal (docs/RULES.md 7.1). A size other than TARNFLAW_IMAGE, or bytes that are
- * no sound timetable (docs/RULES.md 3.5), are refused by TARNFLAW_NOT_SOUND. Any bytes may be handed in: bad ones are refused.
+ * Each function returns a number, TARNFLAW_ACCEPTED or the refusal (docs/RULES.md 7.1). A size other than TARNFLAW_IMAGE is refused by
+ * TARNFLAW_NOT_SOUND, and so are bytes that are no sound timetable (docs/RULES.md 3.5); only tarnflaw_empty takes any TARNFLAW_IMAGE bytes.
  * On a refusal no byte of the image or of the area changes. What is told through the other pointers is always written.
  *
+ * Any bytes may be handed in, and give one result. But sound means possible, not true: the bounds are promised for images that came from calls,
+ * not for bytes that were changed elsewhere. See "Stored images".
+ *
  * No pointer may be null, also where its size is 0, and none may lead into what another one points to. Nothing is kept after the call,
- * and nothing is allocated. examples/board.c is a whole program.
+ * and nothing is allocated. examples/board.c is a whole program; examples/header.c tries what is said here.
+ *
+ * Requests and answers
+ *
+ * A request (docs/RULES.md 6.2 to 6.6) has up to TARNFLAW_REQUEST bytes, an answer (docs/RULES.md 6.7) up to TARNFLAW_AREA. Both are fields one
+ * behind the other, in the order below: a tag (1 byte), the length of the content (2 bytes, high byte first), the content. All bytes are in hex:
+ *
+ *     request           tag, length   content
+ *     request slot      01 00 08      8 bytes, at most TARNFLAW_LAST_SLOT
+ *     T                 02 00 01      the longest transition allowed, at most TARNFLAW_LONGEST
+ *     each listed id,   03 00 03      id (below TARNFLAW_IDS), k (0 to 8; its period is 2^k), R (1 to 8)
+ *     ids rising, or    03 00 02      id, k: the short field, which asks R 1
+ *
+ *     answer            tag, length   content
+ *     length            10 00 01      transition length
+ *     owners            11 00 nn      nn bytes: the owner of each transition slot. The field is there with length 0, too
+ *     each listed id,   12 00 02      id, offset
+ *     ids rising
  *
  * Stored images
  *
  * An image belongs to one version of the library, TARNFLAW_VERSION, which is raised whenever an answer, a record or the image changes its
- * meaning. A firmware that stores an image stores the version beside it; where another version stands there, it starts from tarnflaw_empty,
- * or refuses to start. Within one version an image is the same on every machine: bytes, high byte first.
+ * meaning. Within one version an image is the same on every machine. A firmware that stores an image stores beside it:
+ *
+ *     the version     where another version stands there, it starts from tarnflaw_empty, or refuses to start
+ *     a checksum      of its own, since soundness is none: of 69,615 images that differ from case B's in one byte 675 are sound. Byte 86,
+ *                     say, the low byte of id 0's kept shortfall, may hold anything: with 0 there id 0 stands at 0 at slot 7, and not at 192
+ *     the next slot   since the slots belong to the image. A board that counts from 0 again is refused 6 before the image's request slot; one that
+ *                     skips slots, as over a power failure, is told a shortfall as if they had been given
+ *
+ * So it goes on at the next slot without a gap, or starts empty, and then counts from 0. Before it goes on it asks one query: on a refusal it starts
+ * empty too. A change that waits (below) is not in the image in force, and is asked for again.
  *
  * Calls that overlap
  *
@@ -33,44 +64,72 @@
  * else write the image, the request or the area during a call. The two queries only read the image, and write only what their own pointers lead
  * to: any number of them may overlap on one image. Calls on different images may overlap as they like.
  *
- * So a task that changes the timetable beside a dispatcher that asks it changes a copy, and swaps:
+ * A change beside a dispatcher
+ *
+ * A new image answers from its request slot on, and refuses 6 before it. Up to the slot before, the old image has to be asked, and from the
+ * request slot on the new one. A swap too early (refused 6 meanwhile) or too late (no number tells it) can break bounds. So the task that changes
+ * the timetable does not swap. It changes a copy and leaves it waiting; the dispatcher, which runs at each slot's start, takes it over at that slot:
  *
  *     static uint8_t images[2][TARNFLAW_IMAGE];
- *     static volatile sig_atomic_t in_force;             which of the two; only the task stores it
+ *     static volatile sig_atomic_t in_force;     which of the two is in force; only the dispatcher stores it
+ *     static volatile sig_atomic_t copy;         WAITING: the other one waits; TAKEN (at first) or LATE: it is the task's
  *
- *     the dispatcher:   number = tarnflaw_owner(images[in_force], TARNFLAW_IMAGE, slot, &place, &owner);
+ *     the dispatcher:   if (copy == WAITING) {
+ *                           from = the request slot, bytes 0 to 7, of images[!in_force];
+ *                           if (slot == from)
+ *                               in_force = !in_force;
+ *                           if (slot >= from)
+ *                               copy = slot == from ? TAKEN : LATE;
+ *                       }
+ *                       number = tarnflaw_owner(images[in_force], TARNFLAW_IMAGE, slot, &place, &owner);
  *
- *     the task:         next = !in_force;
+ *     the task:         if (copy == WAITING)
+ *                           come back later;
+ *                       next = !in_force;                        not before: up to here the dispatcher may store it
  *                       memcpy(images[next], images[in_force], TARNFLAW_IMAGE);
  *                       number = tarnflaw_change(images[next], TARNFLAW_IMAGE, ...);
  *                       if (number == TARNFLAW_ACCEPTED)
- *                           in_force = next;
+ *                           copy = WAITING;
  *
- * This is safe where the dispatcher interrupts the task on one core and runs to its end before the task goes on: the task writes only the image
- * that is not in force, and the swap is one store. It is not enough where two tasks change (they need an exclusion of their own), where the task
- * can interrupt the dispatcher, or on two cores. The new image answers from its request slot on and refuses 6 before it: swap after the dispatcher
- * has asked for the slot before the request slot, and before it asks for the request slot.
+ * This is safe where the dispatcher interrupts the task on one core, runs to its end before the task goes on, and runs for every slot in turn:
+ *
+ *     who writes      While copy is not WAITING, the dispatcher stores nothing, and the task alone writes: the image that is not in force, and at
+ *                     last copy, by one store. While it is WAITING, the task writes nothing, and the dispatcher alone writes in_force and copy.
+ *     no torn image   The dispatcher looks at a copy only when it is WAITING, and that is stored after tarnflaw_change has returned. The compiler
+ *                     can't move the change behind the store, since it does not see into the archive; an interrupt sees its own core's stores.
+ *     never early     The dispatcher takes a copy over at its request slot and at no other, however long before it was accepted.
+ *     too late        If the dispatcher has already asked for the request slot when copy becomes WAITING, it drops the copy at the next slot: the
+ *                     old image stays in force, and nothing is lost but the change. The task finds LATE, and asks again for a later slot.
+ *     a second one    A change while another waits is put off until that is TAKEN or LATE. So a request slot lies a few slots ahead, and not far.
+ *
+ * The task may ask queries on images[in_force] at any time: nobody but the task writes an image. A dispatcher that is refused runs the slot idle,
+ * but it counts it or reports it: after a right start there are none up to TARNFLAW_LAST_SLOT. The above is not enough where two tasks change (they
+ * need an exclusion of their own), where the task can interrupt the dispatcher, or on two cores.
  *
  * What the archive needs
  *
  * Link with libboard.a (rt staticlib board). The command beside each line shows it on target/staticlib/libboard.a, and examples/board fails where
- * the archive needs other functions, has data, or uses SSE for more than is said here.
+ * the archive needs other functions, has data, or uses other instructions, SSE registers or stack than is said here.
  *
  *     ABI             x86-64, System V, 64-bit ELF (readelf -h); the code runs at any address, since it has only relative calls (objdump -r)
  *     from outside    memcpy (nm -u)
  *     data            none, neither writable nor constant (objdump -h)
+ *     instructions    those of the first x86-64 processors, and tzcnt (objdump -d). Processors without BMI1 run tzcnt as bsf, which gives the same
+ *                     here: its operand, a period, is never 0 where it is reached, and the flags that it sets are not read
  *     SSE             xmm0 to xmm3, to move and to clear bytes, in every function or in what it calls; no floating point arithmetic,
  *                     and no x87, MMX or AVX register (objdump -d). Your memcpy may use more
  *     red zone        tarnflaw_empty keeps figures in the 128 bytes below the stack pointer (objdump -d)
  *
- * So SSE has to be enabled. An interrupt handler that calls it saves the SSE registers first, like all that the ABI lets a call lose, and calls with
- * the stack pointer at a multiple of 16. A handler that interrupts a call and runs on its stack leaves the 128 bytes below the stack pointer alone.
+ * So SSE has to be enabled. Every caller, as the ABI has it, calls with the stack pointer at a multiple of 16: the code moves 16 bytes at a time to
+ * and from the stack, and faults otherwise. An interrupt handler that calls it besides saves the SSE registers first, like all that the ABI lets a
+ * call lose. A handler that interrupts a call and runs on its stack leaves the 128 bytes below the stack pointer alone.
  *
  * What it takes
  *
- * Measured, not proved, and the worst that was found, not a bound: docs/BENCHMARKS.md has the machine and the inputs. Stack of a change: 4,895
- * bytes with the bench's own (71 where it calls nothing); that of a query was not measured. Time of a change: 95 microseconds, half as
- * much again where other work disturbed the run. Time of a query: 0.5 microseconds. */
+ * Measured, not proved, and the worst that was found, not a bound. Stack of a change: 4,895 bytes with the bench's own (71 where it calls nothing);
+ * that of a query was not measured. Time of a change: 95 to 103 microseconds on a quiet machine, 142 where other work disturbed it; time of a query:
+ * 0.5 (docs/BENCHMARKS.md has the machine and the inputs). A later build was timed on a slower machine with an unsteady clock: the worst changes of
+ * three runs took 169, 201 and 117 microseconds there (docs/landings/ground.md). Measure on your board. */
 #ifndef TARNFLAW_H
 #define TARNFLAW_H
 
@@ -81,14 +140,18 @@
 extern "C" {
 #endif
 
-#define TARNFLAW_VERSION 1 /* the version of the library, to be stored beside an image */
-#define TARNFLAW_IMAGE 273 /* bytes of an image */
-#define TARNFLAW_AREA 231  /* bytes that an answer area has at least */
-#define TARNFLAW_IDLE 255  /* the owner of an idle slot */
+#define TARNFLAW_VERSION 1                   /* the version of the library, to be stored beside an image */
+#define TARNFLAW_IMAGE 273                   /* bytes of an image */
+#define TARNFLAW_REQUEST 207                 /* bytes that a request has at most */
+#define TARNFLAW_AREA 231                    /* bytes that an answer has at most, and an answer area at least */
+#define TARNFLAW_IDS 32                      /* ids are below it */
+#define TARNFLAW_LONGEST 64                  /* slots that a transition has at most, and the largest T */
+#define TARNFLAW_LAST_SLOT 0xffffffffffffUL  /* 2^48 - 1, the last slot that a request or a query may name */
+#define TARNFLAW_IDLE 255                    /* the owner of an idle slot */
 
 /* The numbers (docs/RULES.md 7.1). */
 enum tarnflaw_number {
-    TARNFLAW_ACCEPTED = 0,
+    TARNFLAW_ACCEPTED = 0,      /* accepted */
     TARNFLAW_NOT_SOUND = 1,     /* timetable not sound */
     TARNFLAW_SMALL_AREA = 2,    /* answer area under 231 bytes */
     TARNFLAW_BAD_FIELD = 3,     /* field cut off, missing, unknown, out of order or of wrong length */
@@ -105,13 +168,13 @@ enum tarnflaw_number {
  *
  *     image, image_size   the image, TARNFLAW_IMAGE bytes
  *
- * Refuses 1 for another size, and then writes nothing. */
+ * Refuses 1 for another size, and then writes nothing. Any TARNFLAW_IMAGE bytes are accepted, and are 0 afterwards. */
 uint8_t tarnflaw_empty(uint8_t *image, size_t image_size);
 
 /* Changes the timetable by a request, and answers with the transition and the new cyclic slots (docs/RULES.md 4 and 6).
  *
  *     image, image_size       the image; on acceptance it becomes that of the new timetable
- *     request, request_size   the bytes of the request
+ *     request, request_size   the bytes of the request, in the form above
  *     area, area_size         the answer area, TARNFLAW_AREA bytes or more; on acceptance the answer is at its start,
  *                             and the bytes after it stay as they were
  *     place                   told: where the refusal is. For 3 to 5 the byte of the request where the field begins (its size, where a field
@@ -119,7 +182,8 @@ uint8_t tarnflaw_empty(uint8_t *image, size_t image_size);
  *     tries                   told: the number of transition lengths searched; 0 where 1 to 8 is returned
  *     written                 told: the bytes of the answer; 0 on a refusal
  *
- * Refuses 1 to 9, by the lowest stage (docs/RULES.md 7.2). */
+ * Refuses 1 to 9, by the lowest stage (docs/RULES.md 7.2). 6 means that the request slot lies before the base: no change begins within the
+ * transition of the one before (docs/RULES.md 7.3). What slot it is now it does not know: from the base on it accepts one that has passed. */
 uint8_t tarnflaw_change(uint8_t *image, size_t image_size,
                         const uint8_t *request, size_t request_size,
                         uint8_t *area, size_t area_size,
@@ -128,7 +192,7 @@ uint8_t tarnflaw_change(uint8_t *image, size_t image_size,
 /* Who has a slot (docs/RULES.md 8.1).
  *
  *     image, image_size   the image
- *     slot                the slot, from the last accepted request slot on, at most 2^48 - 1
+ *     slot                the slot, from the last accepted request slot on, at most TARNFLAW_LAST_SLOT
  *     place               told: 0
  *     owner               told: the id that has the slot, or TARNFLAW_IDLE; 0 on a refusal
  *
@@ -139,8 +203,8 @@ uint8_t tarnflaw_owner(const uint8_t *image, size_t image_size, uint64_t slot,
 /* How a partition stands at the start of a slot (docs/RULES.md 8.2).
  *
  *     image, image_size   the image
- *     id                  the partition, 0 to 31
- *     slot                the slot, from the base on, at most 2^48 - 1
+ *     id                  the partition, below TARNFLAW_IDS
+ *     slot                the slot, from the base on, at most TARNFLAW_LAST_SLOT
  *     place               told: 0
  *     shortfall           told: its shortfall at the slot's start, in 256ths of a slot; 0 on a refusal
  *     slices              told: the slots it has had from the base up to there; 0 on a refusal
