@@ -1,4 +1,4 @@
--- The figures of one partition say what docs/RULES.md 2.5 and 2.7 says of them: the test of the bound is "below 256 R", the room is the number of idle slots that
+-- The figures of one partition are what docs/RULES.md 2.5 and 2.7 say of them: the test of the bound is "below 256 R", the room is the number of idle slots that
 -- the bound bears and not one more, and the last offset is below the period. Each is a fact of division or of the smaller of two numbers. Assumes nothing.
 use borrow.Author.Tests.{lt-ltb, ltb-true}
 use mathlib.Core.Bool.{true}

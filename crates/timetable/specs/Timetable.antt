@@ -1,4 +1,4 @@
--- docs/RULES.md 3.1 to 3.3: what it holds, and whom a slot serves.
+-- docs/RULES.md 3.1 to 3.3: what a timetable holds, and whom a slot serves.
 use lib.Dec.{eqb, ltb}
 use lib.ListN.{getD, replicate, set}
 use mathlib.Core.Bool.{Bool, cond, _&&_}
