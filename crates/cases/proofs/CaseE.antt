@@ -8,7 +8,7 @@ use native.Mathlib.Nat.{zero-add}
 use native.Mathlib.Omega.{arith}
 use Prim.Native.Nat.{ℕ, zero, suc, _+_, _≤_}
 use Rattle.cases.proofs.Rules.{rules}
-use Rattle.cases.specs.Cases.{Hold, told, entry, given, head, lists, pair, requestE, table, afterB, refused, triesE, casesE}
+use Rattle.cases.specs.Cases.{Hold, told, entry, given, head, lists, pair, requestE, table, afterB, refused, givenE, casesE}
 use Rattle.change.specs.Change.{startPlan, searchOf, answerOf, refuse, answerTo, answer}
 use Rattle.change.specs.Stages.{verdictBefore}
 use Rattle.records.specs.declared.NumberField.{NumberField}
@@ -72,16 +72,16 @@ starts-so : (limit : ℕ) → startPlan afterB (requested limit .request) ≡ st
 unfolding rules table afterB requested start
 starts-so limit = refl
 
--- The search tells lengths 0, 1 and 2 apart, and misses the slot after that.
-searched : (r : Request) (limit : ℕ) → told (answerOf afterB r (searchFrom limit 0 start)) ≡ refused 9 0 (triesE limit) afterB
-unfolding rules told table afterB refused triesE start
+-- The search tells Ts of 0, 1 and 2 apart, and misses slot 2 with a larger one.
+searched : (r : Request) (limit : ℕ) → told (answerOf afterB r (searchFrom limit 0 start)) ≡ givenE limit
+unfolding rules told table afterB refused givenE start
 searched r zero = refl
 searched r (suc zero) = refl
 searched r (suc (suc zero)) = refl
 searched r (suc (suc (suc limit))) = refl
 
 -- The answer from what was read, the stages before and the plan of length 0.
-answered-E : (limit : ℕ) → told (answerTo afterB (requested limit) 231) ≡ refused 9 0 (triesE limit) afterB
+answered-E : (limit : ℕ) → told (answerTo afterB (requested limit) 231) ≡ givenE limit
 unfolding answerTo searchOf requested
 answered-E limit =
     ap (λ (v : Verdict). told (elim v [

@@ -132,16 +132,17 @@ runG t = record {
   newly = λ i. false;
 }
 
--- E's tries: 1 at T 0, 2 at T 1, 3 from T 2 on.
-unfoldable pub triesE : ℕ → ℕ
-triesE zero = 1
-triesE (suc zero) = 2
-triesE (suc (suc limit)) = 3
+-- What E gets by its T: 11 at T 0, 1 and 2, place T and tries T + 1; 9 at place 2 with 3 tries from T 3 on.
+unfoldable pub givenE : ℕ → Given
+givenE zero = refused 11 0 1 afterB
+givenE (suc zero) = refused 11 1 2 afterB
+givenE (suc (suc zero)) = refused 11 2 3 afterB
+givenE (suc (suc (suc limit))) = refused 9 2 3 afterB
 
--- E for the Ts below n: refused 9.
+-- E for the Ts below n.
 unfoldable pub casesE : ℕ → List Case
 casesE zero = []
-casesE (suc limit) = case (change afterB (requestE 9 limit)) (refused 9 0 (triesE limit) afterB) ∷ casesE limit
+casesE (suc limit) = case (change afterB (requestE 9 limit)) (givenE limit) ∷ casesE limit
 
 -- Each case of a list holds: the definitions give what the rules say.
 abbrev pub Hold : List Case → Type 0
@@ -162,7 +163,7 @@ cases =
     (accepted 2 afterB
     (0x10 ∷ 0 ∷ 1 ∷ 1 ∷ 0x11 ∷ 0 ∷ 1 ∷ 1 ∷ 0x12 ∷ 0 ∷ 2 ∷ 0 ∷ 0 ∷ 0x12 ∷ 0 ∷ 2 ∷ 1 ∷ 2 ∷ 0x12 ∷ 0 ∷ 2 ∷ 2 ∷ 1 ∷ []))
     -- C: B with T 0
-    ∷ case (change afterA (requestB 6 0)) (refused 9 0 1 afterA)
+    ∷ case (change afterA (requestB 6 0)) (refused 11 0 1 afterA)
     -- D: the shortfall of id 2 is 256
     ∷ case (starts afterB (requestE 8 1)) (figures (0 ∷ 64 ∷ 256 ∷ []))
     ∷ case (change afterB (requestE 8 1)) (refused 8 2 0 afterB)

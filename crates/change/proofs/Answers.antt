@@ -17,7 +17,7 @@ use Rattle.numbers.specs.Chain.{refused as stops, passed}
 use Rattle.numbers.specs.declared.Refusal.{Refusal}
 use Rattle.numbers.specs.declared.Verdict.{Verdict}
 use Rattle.numbers.specs.declared.Verdict.the-variants.{Passed, Refused}
-use Rattle.numbers.specs.Numbers.{ACCEPTED, NO-SCHEDULE}
+use Rattle.numbers.specs.Numbers.{ACCEPTED, SLOT-MISSED, LENGTHS-EXHAUSTED}
 use Rattle.placement.specs.Placement.{Place, placement}
 use Rattle.records.proofs.ReadLaws.{RequestRange, read-in-range, refused-in-range}
 use Rattle.records.specs.Answer.{answerRecord}
@@ -48,9 +48,9 @@ admitted t s area (passed _ (passed _ (sound a) (passed _ (enough b) (passed _ (
 abbrev pub acceptedAs : Request → ℕ → Plan → Answer
 acceptedAs r k plan = record { number = ACCEPTED; place = 0; tries = suc k; timetable = newTimetable r k plan }
 
--- The answer for want of a schedule.
-abbrev pub refusedAs : Timetable → ℕ → Answer
-refusedAs t tries = record { number = NO-SCHEDULE; place = 0; tries = tries; timetable = t }
+-- The answer for want of a schedule: its number, and the length at which the search ended.
+abbrev pub refusedAs : Timetable → ℕ → ℕ → Answer
+refusedAs t number n = record { number = number; place = n; tries = suc n; timetable = t }
 
 -- An accepted answer has a record, and no other has.
 pub record-accepted : (a : Answer) → a .number ≡ ACCEPTED → recordOf a ≡ answerRecord (a .timetable .length) (a .timetable .owners) (a .timetable .entries)
@@ -63,17 +63,17 @@ record-none a n = rw (ne-eqb _ _ n)
 
 -- What the request bytes s get.
 pub data Gets (t : Timetable) (s : List ℕ) (area : ℕ) : Answer → Type 0 where
-  refused : (r : Refusal) → verdictBefore t (readRequest s) area ≡ Refused r → 0 < r .number → r .number < NO-SCHEDULE → Gets t s area (refuse t r)
+  refused : (r : Refusal) → verdictBefore t (readRequest s) area ≡ Refused r → 0 < r .number → r .number < SLOT-MISSED → Gets t s area (refuse t r)
   accepted : verdictBefore t (readRequest s) area ≡ Passed → Admitted t (readRequest s .request) area
       → (k : ℕ) → k ≤ readRequest s .request .limit → PassedFirst k 0 (startPlan t (readRequest s .request))
       → (p : Plan) → reach (startPlan t (readRequest s .request)) k ≡ some p → (ps : List Place) → placement (p .entries) ≡ some ps
       → Gets t s area (acceptedAs (readRequest s .request) k (placed p ps))
   no-slot : verdictBefore t (readRequest s) area ≡ Passed → Admitted t (readRequest s .request) area
       → (k : ℕ) → k < readRequest s .request .limit → PassedFirst (suc k) 0 (startPlan t (readRequest s .request))
-      → (p : Plan) → reach (startPlan t (readRequest s .request)) k ≡ some p → longer k p ≡ none → Gets t s area (refusedAs t (suc k))
+      → (p : Plan) → reach (startPlan t (readRequest s .request)) k ≡ some p → longer k p ≡ none → Gets t s area (refusedAs t SLOT-MISSED k)
   no-length : verdictBefore t (readRequest s) area ≡ Passed → Admitted t (readRequest s .request) area
       → PassedFirst (suc (readRequest s .request .limit)) 0 (startPlan t (readRequest s .request))
-      → Gets t s area (refusedAs t (suc (readRequest s .request .limit)))
+      → Gets t s area (refusedAs t LENGTHS-EXHAUSTED (readRequest s .request .limit))
 
 module _ (t : Timetable) (s : List ℕ) (area : ℕ) where
   r : Request
@@ -84,11 +84,11 @@ module _ (t : Timetable) (s : List ℕ) (area : ℕ) where
       → (x : Searched) → Ended (r .limit) 0 (startPlan t r) x → Gets t s area (answerOf t (readRequest s .request) x)
   unfolding r answerOf numberOf placeOf timetableOf placed
   searched e p x (found k l b q h ps f i) = rw (i, zero-add k) (accepted e p k l b q h ps f)
-  searched e p x (missed k l b q h f i) = rw i (no-slot e p k l b q h (rw zero-add at f))
-  searched e p x (exhausted b q i) = rw i (no-length e p b)
+  searched e p x (missed k l b q h f i) = rw (i, zero-add k) (no-slot e p k l b q h (rw zero-add at f))
+  searched e p x (exhausted b q i) = rw (i, zero-add (r .limit)) (no-length e p b)
 
   -- A refusal before the search has a number from 1 to 8.
-  pub refusal-number : (x : Refusal) → StagesSay t (readRequest s) area (Refused x) → (0 < x .number) × (x .number < NO-SCHEDULE)
+  pub refusal-number : (x : Refusal) → StagesSay t (readRequest s) area (Refused x) → (0 < x .number) × (x .number < SLOT-MISSED)
   refusal-number x (stops _ (stops _ (not-sound a))) = omega arith
   refusal-number x (stops _ (passed _ _ (stops _ (small-area a)))) = omega arith
   refusal-number x (stops _ (passed _ _ (passed _ _ (stops _ (bad-field q f))))) = let k = refused-in-range s q f in omega (arith, k .low, k .high)

@@ -3,7 +3,7 @@ use borrow.Author.Tests.{eq-eqb, le-ltb, lt-ltb, ne-eqb}
 use lib.ListN.{length}
 use mathlib.Core.Bool.{Bool, true, false}
 use mathlib.Core.List.{List}
-use mathlib.Core.Logic.{inl, inr}
+use mathlib.Core.Logic.{_⊎_, inl, inr}
 use mathlib.Core.Option.{none, some}
 use mathlib.Core.Path.{_≡_, refl, sym, ap, _∙_, subst}
 use native.Mathlib.Decide.{ℕ-discrete}
@@ -13,9 +13,10 @@ use Rattle.change.proofs.Answers.{Gets, Admitted, accepted, acceptedAs,
 use Rattle.change.proofs.Start.{length-start, start-at, start-fit}
 use Rattle.change.specs.Change.{answer, areaAfter, outcome, outcomeOf, recordOf, refuse, startPlan, written}
 use Rattle.change.specs.declared.Answer.{Answer}
-use Rattle.change.specs.Given.{AsksBound, Enters, AtRequest, ByRules, Wanting, Gives, early, schedule, wanting}
+use Rattle.change.specs.Given.{AsksBound, Enters, AtRequest, ByRules, EndsAt, missed, exhausted, Wanting, Gives, early, schedule, wanting}
 use Rattle.change.specs.Stages.{askedBound, entering, startEntries}
 use Rattle.numbers.specs.declared.Verdict.the-variants.{Passed, Refused}
+use Rattle.numbers.specs.Numbers.{SLOT-MISSED, LENGTHS-EXHAUSTED}
 use Rattle.placement.proofs.Complete.{placement-none, settle-entry, settle-unlisted}
 use Rattle.placement.proofs.RuleFourLaws.{rule-four-is}
 use Rattle.placement.proofs.Settle.{length-settle}
@@ -131,39 +132,36 @@ module _ (t : Timetable) (q : Request) (area : ℕ) (pass : Admitted t q area) w
           unlisted : (i : ℕ) → i < IDS → askOf (q .asks) i .period ≡ 0 → isListed (entryOf (x .entries) i) ≡ false
           unlisted i k z = ap isListed (walked plan fit n small x here i k) ∙ ap isListed (at-request t q .blank i k z)
 
-  -- For want of a schedule.
-  want-missed : (k : ℕ) → k < q .limit → PassedFirst (suc k) 0 plan → (x : Plan) → reach plan k ≡ some x → longer k x ≡ none → Wanting t q k
-  unfolding startPlan
-  want-missed k l b x here miss =
-      let small : k ≤ LONGEST = omega (arith, pass .range .limit) in
-      let w = b k (omega arith) in
-      let y : w .0 ≡ x = cc (w .1) in
-      record {
-        start = plan .entries;
-        starts = at-request t q;
-        owners = x .owners;
-        transition = reach-rule plan fit k small x here;
-        limit = omega arith;
-        passed = λ m l. passed-over k small x here (suc k) (omega arith) b m (omega arith);
-        ends = inr (subst AnyoneBreaks (on-the-way k small x here k (omega arith) x here)
-            (longer-breaks k x (fit-here k small x here) (subst (λ (p : Plan). placement (p .entries) ≡ none) y (w .2)) miss));
-      }
+  module _ (n : ℕ) (small : n ≤ LONGEST) (b : PassedFirst (suc n) 0 plan) (x : Plan) (here : reach plan n ≡ some x) where
+    -- For want of a schedule, with the number of the end.
+    want : (number : ℕ) → EndsAt (q .limit) n (walkedTo (plan .entries) (x .owners) n) number → Wanting t q n number
+    unfolding startPlan
+    want number e = record {
+      start = plan .entries;
+      starts = at-request t q;
+      owners = x .owners;
+      transition = reach-rule plan fit n small x here;
+      passed = λ m l. passed-over n small x here (suc n) (omega arith) b m (omega arith);
+      ends = e;
+    }
 
-  want-exhausted : PassedFirst (suc (q .limit)) 0 plan → Wanting t q (q .limit)
-  unfolding startPlan
-  want-exhausted b =
-      let n : ℕ = q .limit in
-      let small : n ≤ LONGEST = omega (arith, pass .range .limit) in
-      let w = b n (omega arith) in
-      record {
-        start = plan .entries;
-        starts = at-request t q;
-        owners = w .0 .owners;
-        transition = reach-rule plan fit n small (w .0) (w .1);
-        limit = omega arith;
-        passed = λ m l. passed-over n small (w .0) (w .1) (suc n) (omega arith) b m (omega arith);
-        ends = inl refl;
-      }
+    -- A slot that the urgent rule cannot give is missed.
+    want-missed : n < q .limit → longer n x ≡ none → Wanting t q n SLOT-MISSED
+    want-missed l miss =
+        let w = b n (omega arith) in
+        let y : w .0 ≡ x = cc (w .1) in
+        want SLOT-MISSED
+        (missed l
+        (subst AnyoneBreaks (on-the-way n small x here n (omega arith) x here)
+        (longer-breaks n x (fit-here n small x here) (subst (λ (p : Plan). placement (p .entries) ≡ none) y (w .2)) miss)))
+
+-- A schedule is wanting by 9 or by 11.
+pub wanting-number : (t : Timetable) (q : Request) (n number : ℕ) → Wanting t q n number → (number ≡ SLOT-MISSED) ⊎ (number ≡ LENGTHS-EXHAUSTED)
+wanting-number t q n number w = at number (w .ends)
+  where
+    at : (x : ℕ) → EndsAt (q .limit) n (walkedTo (w .start) (w .owners) n) x → (x ≡ SLOT-MISSED) ⊎ (x ≡ LENGTHS-EXHAUSTED)
+    at x (missed _ _) = inl refl
+    at x (exhausted _) = inr refl
 
 -- ---- the whole
 
@@ -188,5 +186,11 @@ gives t s area = at (answer t s (length area)) (gets t s (length area))
               (omega (arith, fit-here t (readRequest s .request) (length area) p k small x h .places))
               (p .room);
         })
-    at a (no-slot e p k l b x h f) = wanting (readRequest s) (request-read s) (said t s (length area) Passed e) k (want-missed t (readRequest s .request) (length area) p k l b x h f)
-    at a (no-length e p b) = wanting (readRequest s) (request-read s) (said t s (length area) Passed e) (readRequest s .request .limit) (want-exhausted t (readRequest s .request) (length area) p b)
+    at a (no-slot e p k l b x h f) =
+        wanting (readRequest s) (request-read s) (said t s (length area) Passed e) k SLOT-MISSED
+        (want-missed t (readRequest s .request) (length area) p k (omega (arith, p .range .limit)) b x h l f)
+    at a (no-length e p b) =
+        let n : ℕ = readRequest s .request .limit in
+        let w = b n (omega arith) in
+        wanting (readRequest s) (request-read s) (said t s (length area) Passed e) n LENGTHS-EXHAUSTED
+        (want t (readRequest s .request) (length area) p n (omega (arith, p .range .limit)) b (w .0) (w .1) LENGTHS-EXHAUSTED (exhausted refl))

@@ -4,6 +4,7 @@ pub mod Accept
 pub mod Answers
 pub mod GivenLaws
 pub mod OneGiven
+pub mod Raised
 pub mod Histories
 pub mod StageSteps
 pub mod Passing

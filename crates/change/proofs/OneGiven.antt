@@ -4,8 +4,8 @@ use borrow.Author.Tests.{lt-ltb}
 use lib.ListN.{getD, length}
 use lib.Seq.{ext-getD}
 use mathlib.Core.List.{List}
-use mathlib.Core.Logic.{_⊎_, inl, inr}
-use mathlib.Core.Path.{_≡_, refl, sym, ap, _∙_, subst}
+use mathlib.Core.Logic.{inl, inr}
+use mathlib.Core.Path.{_≡_, refl, sym, ap, ap₂, _∙_, subst}
 use native.Mathlib.Decide.{ℕ-discrete, decLt}
 use native.Mathlib.Omega.{arith}
 use Prim.Native.Nat.{ℕ, suc, _+_, _≤_, _<_}
@@ -14,7 +14,7 @@ use Rattle.change.proofs.GivenLaws.{at-request}
 use Rattle.change.proofs.Stages.{stages}
 use Rattle.change.proofs.Start.{start-ranged}
 use Rattle.change.specs.declared.Outcome.{Outcome}
-use Rattle.change.specs.Given.{AsksBound, Enters, AtRequest, ByRules, Accepted, Wanting, Gives, early, schedule, wanting, refusedWith}
+use Rattle.change.specs.Given.{AsksBound, Enters, AtRequest, ByRules, Accepted, EndsAt, missed, exhausted, Wanting, Gives, early, schedule, wanting, refusedWith}
 use Rattle.change.specs.Refused.{Behind, StagesSay}
 use Rattle.change.specs.Stages.{startEntries, verdictBefore}
 use Rattle.numbers.proofs.ChainLaws.{not-passed}
@@ -30,7 +30,6 @@ use Rattle.numbers.specs.declared.Refusal.{Refusal}
 use Rattle.numbers.specs.declared.Verdict.{Verdict}
 use Rattle.numbers.specs.declared.Verdict.the-variants.{Passed, Refused}
 use Rattle.records.specs.declared.Request.{Request}
-use Rattle.numbers.specs.Numbers.{NO-SCHEDULE}
 use Rattle.records.specs.Reads.{RequestRead}
 use Rattle.records.specs.Request.{askOf, readRequest}
 use Rattle.slots.specs.Limits.{IDS}
@@ -177,33 +176,45 @@ module _ (t : Timetable) (q : Request) (range : RequestRange q) (fine : (i : ℕ
       ((λ j. record { number = f j; place = g j; tries = h j; written = d .0 j; timetable = c j }), d .1)
 
   -- A transition by rule 3 does not go past the length at which a schedule is wanting.
-  not-beyond : (n : ℕ) → Wanting t q n → (start : List Entry) → AtRequest t q start → (owners : List ℕ) (m : ℕ) → ByRuleThree start owners m → m ≤ q .limit → n < m → ⊥
-  not-beyond n w start s owners m r h l = at (w .ends)
+  not-beyond : (n x : ℕ) → Wanting t q n x → (start : List Entry) → AtRequest t q start → (owners : List ℕ) (m : ℕ) → ByRuleThree start owners m → m ≤ q .limit → n < m → ⊥
+  not-beyond n x w start s owners m r h l = at x (w .ends)
     where
-      at : (n ≡ q .limit) ⊎ AnyoneBreaks (walkedTo (w .start) (w .owners) n) → ⊥
-      at (inl z) = omega arith
-      at (inr broken) =
+      at : (x : ℕ) → EndsAt (q .limit) n (walkedTo (w .start) (w .owners) n) x → ⊥
+      at x (exhausted z) = omega arith
+      at x (missed _ broken) =
           not-past t q (w .start) (w .starts) (start-in-range (w .start) (w .starts)) (w .owners) owners n m (w .transition)
           (subst (λ (es : List Entry). ByRuleThree es owners m) (start-one t q start (w .start) s (w .starts)) r) l broken
 
+  -- The search ends at T at the latest.
+  ends-below : (limit n : ℕ) (es : List Entry) (x : ℕ) → EndsAt limit n es x → n ≤ limit
+  ends-below limit n es x (missed l _) = omega arith
+  ends-below limit n es x (exhausted z) = omega arith
+
   -- A schedule is wanting at one length.
-  wanting-one : (n m : ℕ) → Wanting t q n → Wanting t q m → n ≡ m
-  wanting-one n m a b = at (decLt n m) (decLt m n)
+  wanting-one : (n x m y : ℕ) → Wanting t q n x → Wanting t q m y → n ≡ m
+  wanting-one n x m y a b = at (decLt n m) (decLt m n)
     where
       at : Dec (n < m) → Dec (m < n) → n ≡ m
-      at (yes l) _ = absurd (not-beyond n a (b .start) (b .starts) (b .owners) m (b .transition) (b .limit) l)
-      at (no _) (yes l) = absurd (not-beyond m b (a .start) (a .starts) (a .owners) n (a .transition) (a .limit) l)
+      at (yes l) _ = absurd (not-beyond n x a (b .start) (b .starts) (b .owners) m (b .transition) (ends-below _ m _ y (b .ends)) l)
+      at (no _) (yes l) = absurd (not-beyond m y b (a .start) (a .starts) (a .owners) n (a .transition) (ends-below _ n _ x (a .ends)) l)
       at (no k) (no l) = omega arith
 
+  -- An end at one length has one number.
+  number-one : (n m : ℕ) (es fs : List Entry) (x y : ℕ) → n ≡ m → EndsAt (q .limit) n es x → EndsAt (q .limit) m fs y → x ≡ y
+  number-one n m es fs x y e (missed _ _) (missed _ _) = refl
+  number-one n m es fs x y e (missed l _) (exhausted z) = absurd (omega arith)
+  number-one n m es fs x y e (exhausted z) (missed l _) = absurd (omega arith)
+  number-one n m es fs x y e (exhausted _) (exhausted _) = refl
+
   -- Where there is an acceptance no schedule is wanting.
-  not-wanting : (before : List ℕ) (r : Outcome) (out : List ℕ) (n : ℕ) → Accepted t q before r out → Wanting t q n → ⊥
-  not-wanting before r out n a w = at (decLt n (r .timetable .length))
+  not-wanting : (before : List ℕ) (r : Outcome) (out : List ℕ) (n number : ℕ) → Accepted t q before r out → Wanting t q n number → ⊥
+  not-wanting before r out n number a w = at (decLt n (r .timetable .length))
     where
       x : Timetable
       x = r .timetable
 
       at : Dec (n < x .length) → ⊥
-      at (yes l) = not-beyond n w (a .start) (a .starts) (x .owners) (x .length) (a .rules .transition) (a .rules .limit) l
+      at (yes l) = not-beyond n number w (a .start) (a .starts) (x .owners) (x .length) (a .rules .transition) (a .rules .limit) l
       at (no l) =
           let e = start-one t q (w .start) (a .start) (w .starts) (a .starts) in
           let run : ByRuleThree (a .start) (w .owners) (x .length) =
@@ -240,29 +251,30 @@ module _ (t : Timetable) (s area : List ℕ) where
       let z : x ≡ y = cc in
       (ap (λ (w : Refusal). refusedWith t (w .number) (w .place) 0) z, refl)
   gives-one r r′ out out′ (early a d x p) (schedule b e q u v w) = absurd (not-early x a b d e p q)
-  gives-one r r′ out out′ (early a d x p) (wanting b e q n w) = absurd (not-early x a b d e p q)
+  gives-one r r′ out out′ (early a d x p) (wanting b e q n k w) = absurd (not-early x a b d e p q)
   gives-one r r′ out out′ (schedule a d p u v w) (early b e y q) = absurd (not-early y b a e d q p)
   gives-one r r′ out out′ (schedule a d p u v w) (schedule b e q u′ v′ w′) =
       let g = passes a d p in
       accepted-one t (readRequest s .request) (g .range) (g .fine) area u u′ v v′
       (as-read (λ y. Accepted t (y .request) area u v) a d w)
       (as-read (λ y. Accepted t (y .request) area u′ v′) b e w′)
-  gives-one r r′ out out′ (schedule a d p u v w) (wanting b e q n x) =
+  gives-one r r′ out out′ (schedule a d p u v w) (wanting b e q n k x) =
       let g = passes a d p in
       absurd
-      (not-wanting t (readRequest s .request) (g .range) (g .fine) area u v n
+      (not-wanting t (readRequest s .request) (g .range) (g .fine) area u v n k
       (as-read (λ y. Accepted t (y .request) area u v) a d w)
-      (as-read (λ y. Wanting t (y .request) n) b e x))
-  gives-one r r′ out out′ (wanting a d p n x) (early b e y q) = absurd (not-early y b a e d q p)
-  gives-one r r′ out out′ (wanting a d p n x) (schedule b e q u v w) =
+      (as-read (λ y. Wanting t (y .request) n k) b e x))
+  gives-one r r′ out out′ (wanting a d p n k x) (early b e y q) = absurd (not-early y b a e d q p)
+  gives-one r r′ out out′ (wanting a d p n k x) (schedule b e q u v w) =
       let g = passes a d p in
       absurd
-      (not-wanting t (readRequest s .request) (g .range) (g .fine) area u v n
+      (not-wanting t (readRequest s .request) (g .range) (g .fine) area u v n k
       (as-read (λ y. Accepted t (y .request) area u v) b e w)
-      (as-read (λ y. Wanting t (y .request) n) a d x))
-  gives-one r r′ out out′ (wanting a d p n x) (wanting b e q m y) =
+      (as-read (λ y. Wanting t (y .request) n k) a d x))
+  gives-one r r′ out out′ (wanting a d p n k x) (wanting b e q m l y) =
       let g = passes a d p in
-      let z = wanting-one t (readRequest s .request) (g .range) (g .fine) n m
-      (as-read (λ z. Wanting t (z .request) n) a d x)
-      (as-read (λ z. Wanting t (z .request) m) b e y) in
-      (ap (λ (k : ℕ). refusedWith t NO-SCHEDULE 0 (suc k)) z, refl)
+      let i = as-read (λ z. Wanting t (z .request) n k) a d x in
+      let j = as-read (λ z. Wanting t (z .request) m l) b e y in
+      let z = wanting-one t (readRequest s .request) (g .range) (g .fine) n k m l i j in
+      let w = number-one t (readRequest s .request) (g .range) (g .fine) n m _ _ k l z (i .ends) (j .ends) in
+      (ap₂ (λ (number n : ℕ). refusedWith t number n (suc n)) w z, refl)

@@ -10,7 +10,7 @@ use Rattle.change.specs.declared.Outcome.{Outcome}
 use Rattle.change.specs.Stages.{startEntries, verdictBefore}
 use Rattle.numbers.specs.declared.Refusal.{Refusal}
 use Rattle.numbers.specs.declared.Verdict.the-variants.{Passed, Refused}
-use Rattle.numbers.specs.Numbers.{ACCEPTED, NO-SCHEDULE}
+use Rattle.numbers.specs.Numbers.{ACCEPTED, SLOT-MISSED, LENGTHS-EXHAUSTED}
 use Rattle.records.specs.Answer.{answerRecord}
 use Rattle.records.specs.declared.ReadRequest.{ReadRequest}
 use Rattle.records.specs.declared.Request.{Request}
@@ -24,17 +24,17 @@ use Rattle.transition.specs.declared.Plan.{Plan}
 use Rattle.transition.specs.declared.Searched.{Searched}
 use Rattle.transition.specs.Transition.{searchFrom}
 
--- The number of an ending: accepted, or no length up to T gives a schedule.
+-- The number of an ending: accepted, a slot missed, or every length up to T searched in vain.
 unfoldable pub numberOf : Ending → ℕ
 numberOf (Found n) = ACCEPTED
-numberOf (Missed n) = NO-SCHEDULE
-numberOf (Exhausted n) = NO-SCHEDULE
+numberOf (Missed n) = SLOT-MISSED
+numberOf (Exhausted n) = LENGTHS-EXHAUSTED
 
--- The place of an ending.
+-- The place of an ending: the slot missed, or T.
 unfoldable pub placeOf : Ending → ℕ
 placeOf (Found n) = 0
-placeOf (Missed n) = 0
-placeOf (Exhausted n) = 0
+placeOf (Missed n) = n
+placeOf (Exhausted n) = n
 
 -- The new timetable: the request slot, the transition, and its base, request slot + length.
 abbrev pub newTimetable : Request → ℕ → Plan → Timetable

@@ -13,7 +13,7 @@ use Rattle.records.specs.declared.ReadRequest.{ReadRequest}
 use Rattle.numbers.specs.declared.Refusal.{Refusal}
 use Rattle.numbers.specs.declared.Verdict.the-variants.{Passed, Refused}
 use Rattle.records.specs.declared.Request.{Request}
-use Rattle.numbers.specs.Numbers.{ACCEPTED, NO-SCHEDULE}
+use Rattle.numbers.specs.Numbers.{ACCEPTED, SLOT-MISSED, LENGTHS-EXHAUSTED}
 use Rattle.records.specs.Reads.{RequestRead}
 use Rattle.records.specs.Request.{askOf}
 use Rattle.slots.specs.Limits.{IDS, LONGEST}
@@ -69,15 +69,20 @@ pub record Accepted (t : Timetable) (q : Request) (before : List ℕ) (r : Outco
   pub tries : r .tries ≡ suc (r .timetable .length)
   pub answer : AnswerStands before (r .timetable .length) (r .timetable .owners) (r .timetable .entries) (r .written) after
 
--- No length up to T gives a schedule: each length up to n is passed over, and n is T, or slot n is missed, since whoever gets it a bound is broken.
-pub record Wanting (t : Timetable) (q : Request) (n : ℕ) : Type 0 where
+-- How a search without a placement ends at length n, from the entries there, and its number: slot n, below T, is missed, since whoever gets it a bound is
+-- broken; or n is T, whatever slot T would bring.
+pub data EndsAt (limit n : ℕ) (there : List Entry) : ℕ → Type 0 where
+  missed : n < limit → AnyoneBreaks there → EndsAt limit n there SLOT-MISSED
+  exhausted : n ≡ limit → EndsAt limit n there LENGTHS-EXHAUSTED
+
+-- No length up to T gives a schedule: each length up to n is passed over, and there the search ends, with this number.
+pub record Wanting (t : Timetable) (q : Request) (n number : ℕ) : Type 0 where
   pub start : List Entry
   pub starts : AtRequest t q start
   pub owners : List ℕ
   pub transition : ByRuleThree start owners n
-  pub limit : n ≤ q .limit
   pub passed : (m : ℕ) → m ≤ n → NoPlacement (walkedTo start owners m)
-  pub ends : (n ≡ q .limit) ⊎ AnyoneBreaks (walkedTo start owners n)
+  pub ends : EndsAt (q .limit) n (walkedTo start owners n) number
 
 -- What a refusal returns beside its number, place and tries: no bytes written, and the timetable as given.
 abbrev pub refusedWith : Timetable → ℕ → ℕ → ℕ → Outcome
@@ -91,6 +96,6 @@ pub data Gives (t : Timetable) (s before : List ℕ) : Outcome → List ℕ → 
   -- a schedule
   schedule : (read : ReadRequest) → RequestRead s read → StagesSay t read (length before) Passed → (r : Outcome) (after : List ℕ)
       → Accepted t (read .request) before r after → Gives t s before r after
-  -- the refusal for want of a schedule, with a try for each length passed over
-  wanting : (read : ReadRequest) → RequestRead s read → StagesSay t read (length before) Passed → (n : ℕ) → Wanting t (read .request) n
-      → Gives t s before (refusedWith t NO-SCHEDULE 0 (suc n)) before
+  -- the refusal for want of a schedule: its place is the length at which the search ends, with a try for each length passed over
+  wanting : (read : ReadRequest) → RequestRead s read → StagesSay t read (length before) Passed → (n number : ℕ) → Wanting t (read .request) n number
+      → Gives t s before (refusedWith t number n (suc n)) before

@@ -4,7 +4,6 @@ ghost use mathlib.Core.Path.{_≡_};
 ghost use Prim.Native.Nat.{_≤_};
 ghost use Rattle.change.specs.Change.{newTimetable, answerOf, refuse, outcomeOf, written};
 ghost use Rattle.change.specs.Coded.{GoesInto, Holds};
-ghost use Rattle.numbers.specs.Numbers.{NO-SCHEDULE};
 ghost use Rattle.slots.specs.Limits.{LAST-SLOT, LONGEST};
 use crate::Answer;
 use crate::Outcome;
@@ -43,8 +42,8 @@ pub fn finish(t: Timetable, asked: Request, found: Searched) -> Answer
             tries,
             timetable: new_timetable(asked, n, plan),
         },
-        Ending::Missed(_) => no_schedule(t, tries),
-        Ending::Exhausted(_) => no_schedule(t, tries),
+        Ending::Missed(n) => no_schedule(t, Refusal::SLOT_MISSED, n, tries),
+        Ending::Exhausted(n) => no_schedule(t, Refusal::LENGTHS_EXHAUSTED, n, tries),
     }
 }
 
@@ -66,13 +65,13 @@ fn new_timetable(asked: Request, n: u8, plan: Plan) -> Timetable
     }
 }
 
-// No length up to T gives a schedule.
-fn no_schedule(t: Timetable, tries: u8) -> Answer
-    ensures { λ r. ⌜ r ≡ record { number = NO-SCHEDULE; place = 0; tries = tries; timetable = t } ⌝ }
+// The refusal for want of a schedule: its place is the length at which the search ended.
+fn no_schedule(t: Timetable, number: u8, n: u8, tries: u8) -> Answer
+    ensures { λ r. ⌜ r ≡ record { number = number; place = n; tries = tries; timetable = t } ⌝ }
 {
     Answer {
-        number: Refusal::NO_SCHEDULE,
-        place: 0,
+        number,
+        place: n as usize,
         tries,
         timetable: t,
     }

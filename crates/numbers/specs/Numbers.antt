@@ -38,13 +38,17 @@ OVERFULL = 7
 abbrev pub BEHIND : ℕ
 BEHIND = 8
 
--- no length up to T gives a schedule
-abbrev pub NO-SCHEDULE : ℕ
-NO-SCHEDULE = 9
+-- a transition slot is missed, no length up to it gives a schedule
+abbrev pub SLOT-MISSED : ℕ
+SLOT-MISSED = 9
 
 -- id not listed
 abbrev pub NOT-LISTED : ℕ
 NOT-LISTED = 10
+
+-- no length up to T gives a schedule, all were searched
+abbrev pub LENGTHS-EXHAUSTED : ℕ
+LENGTHS-EXHAUSTED = 11
 
 -- A refusal: its number and its place.
 abbrev pub refusal : ℕ → ℕ → Refusal

@@ -36,11 +36,14 @@ impl Refusal {
     // shortfall at the request slot not below 256 x new R
     pub const BEHIND: u8 = 8;
 
-    // no length up to T gives a schedule
-    pub const NO_SCHEDULE: u8 = 9;
+    // a transition slot is missed, no length up to it gives a schedule
+    pub const SLOT_MISSED: u8 = 9;
 
     // id not listed
     pub const NOT_LISTED: u8 = 10;
+
+    // no length up to T gives a schedule, all were searched
+    pub const LENGTHS_EXHAUSTED: u8 = 11;
 
     // The refusal with this number and place.
     pub fn of(number: u8, place: usize) -> Refusal

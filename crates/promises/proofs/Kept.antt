@@ -4,18 +4,20 @@ use lib.ListN.{length}
 use lib.Seq.{length-sets, sets}
 use mathlib.Core.Bool.{true}
 use mathlib.Core.List.{List}
-use mathlib.Core.Logic.{_≢_}
+use mathlib.Core.Logic.{_≢_, inl, inr}
 use mathlib.Core.Option.{Option, none, some}
 use mathlib.Core.Path.{_≡_, refl, sym, ap, ap₂, _∙_, subst}
+use native.Mathlib.Decide.{decLt}
 use native.Mathlib.Omega.{arith}
-use Prim.Native.Nat.{ℕ, suc, _+_, _-_, _*_, _≤_}
-use Rattle.change.proofs.Answers.{Gets, refused, accepted, no-slot, no-length, gets, accepted-continues, record-accepted, record-none}
+use Prim.Native.Nat.{ℕ, suc, _+_, _-_, _*_, _≤_, _<_}
+use Rattle.change.proofs.Answers.{Gets, refused, accepted, no-slot, no-length, gets, accepted-continues, record-accepted, record-none, refusal-number}
 use Rattle.change.proofs.Histories.{history-valid}
-use Rattle.change.proofs.GivenLaws.{at-request, gives}
+use Rattle.change.proofs.GivenLaws.{at-request, gives, wanting-number}
 use Rattle.change.proofs.OneGiven.{gives-one}
 use Rattle.change.proofs.QueriedLaws.{owner-given, owner-only, standing-given, standing-only}
+use Rattle.change.proofs.Raised.{answer-raised, withT}
 use Rattle.change.proofs.Stages.{stages}
-use Rattle.change.specs.Change.{answer, answerTo, answerOf, outcome, areaAfter, recordOf, refuse, searchOf, startPlan}
+use Rattle.change.specs.Change.{answer, answerTo, answerOf, outcome, outcomeOf, areaAfter, recordOf, refuse, searchOf, startPlan, written}
 use Rattle.change.specs.Controller.{historyOf}
 use Rattle.change.specs.declared.Answer.{Answer}
 use Rattle.change.specs.declared.Outcome.{Outcome}
@@ -26,8 +28,8 @@ use Rattle.change.specs.Stages.{verdictBefore}
 use Rattle.placement.proofs.Complete.{placement-none, placement-some}
 use Rattle.placement.specs.Any.{CyclicPlacement}
 use Rattle.placement.specs.Placement.{Place, placement}
-use Rattle.promises.proofs.Lengths.{accepted-iff, refused-iff}
-use Rattle.promises.specs.Promises.{SoundStays, Windows, OneOwner, PlacementComplete, Passes, Shortest, Tries, Stages, OneForm, KeptShortfall, Queries, Exact, Figures}
+use Rattle.promises.proofs.Lengths.{accepted-iff, exhausted-iff, missed-iff, refused-iff}
+use Rattle.promises.specs.Promises.{SoundStays, Windows, OneOwner, PlacementComplete, Passes, Shortest, Tries, Stages, OneForm, KeptShortfall, Queries, Exact, Figures, LargerT, RaisingT}
 use Rattle.records.proofs.AnswerLaws.{answer-length}
 use Rattle.records.proofs.OneForm.{one-form}
 use Rattle.records.proofs.ReadLaws.{read-in-range, refused-in-range}
@@ -38,7 +40,7 @@ use Rattle.records.specs.declared.ReadRequest.{ReadRequest}
 use Rattle.numbers.specs.declared.Refusal.{Refusal}
 use Rattle.numbers.specs.declared.Verdict.{Verdict}
 use Rattle.numbers.specs.declared.Verdict.the-variants.{Passed, Refused}
-use Rattle.numbers.specs.Numbers.{ACCEPTED, NO-SCHEDULE}
+use Rattle.numbers.specs.Numbers.{ACCEPTED, SLOT-MISSED, LENGTHS-EXHAUSTED}
 use Rattle.records.specs.Reads.{RequestRead}
 use Rattle.records.specs.Request.{readRequest}
 use Rattle.slots.proofs.Below.{count-most}
@@ -58,7 +60,8 @@ use Rattle.timetable.specs.History.{present, inForce, runOf}
 use Rattle.timetable.specs.Sound.{entriesInRange}
 use Rattle.timetable.specs.Timetable.{lists, ownerAt, slicesAt}
 use Rattle.transition.proofs.Reach.{tries-count}
-use Rattle.transition.specs.Reach.{isSearched}
+use Rattle.transition.specs.declared.Plan.{Plan}
+use Rattle.transition.specs.Reach.{isSearched, HasPlacement, PassedOver, SlotBreaks}
 
 -- ---- 1
 
@@ -139,7 +142,12 @@ pub shortest : Shortest
 unfolding outcome
 shortest t s area p =
     let e = no-refusal t s (length area) p in
-    record { accepted = accepted-iff t s (length area) e; refused = refused-iff t s (length area) e }
+    record {
+      accepted = accepted-iff t s (length area) e;
+      exhausted = exhausted-iff t s (length area) e;
+      missed = missed-iff t s (length area) e;
+      refused = refused-iff t s (length area) e;
+    }
 
 -- The tries of a request that passes the stages are those of its search.
 searched : (t : Timetable) (s area : List ℕ) → Passes t s (length area) → outcome t s area .tries ≡ searchOf t (readRequest s .request) .tries
@@ -176,11 +184,12 @@ stages-kept = record {
 }
   where
     only : (t : Timetable) (s area : List ℕ) (read : ReadRequest) → RequestRead s read → (r : Outcome) (out : List ℕ) → Gives t s area r out
-        → r .number ≢ ACCEPTED → r .number ≢ NO-SCHEDULE → StagesSay t read (length area) (Refused (record { number = r .number; place = r .place }))
-    only t s area read e r out (early a d x p) n m =
+        → r .number ≢ ACCEPTED → r .number ≢ SLOT-MISSED → r .number ≢ LENGTHS-EXHAUSTED
+        → StagesSay t read (length area) (Refused (record { number = r .number; place = r .place }))
+    only t s area read e r out (early a d x p) n m l =
         subst (λ (y : ReadRequest). StagesSay t y (length area) (Refused x)) (sym (request-is s a d) ∙ request-is s read e) p
-    only t s area read e r out (schedule a d p u v w) n m = absurd (n (w .number))
-    only t s area read e r out (wanting a d p k w) n m = absurd (m refl)
+    only t s area read e r out (schedule a d p u v w) n m l = absurd (n (w .number))
+    only t s area read e r out (wanting a d p k x w) n m l = absurd (elim (wanting-number t (a .request) k x w) [ inl z ↦ m z | inr z ↦ l z ])
 
 pub one-form-kept : OneForm
 one-form-kept = record { one = one-form; back = round-trip; range = read-in-range; damaged = refused-in-range }
@@ -241,3 +250,78 @@ exact = record { given = gives; one = gives-one }
 
 pub figures : Figures
 figures = record { numbers = refl; limits = refl }
+
+-- ---- 13
+
+-- A request that gets no number of a refusal before the search passes the stages.
+passes : (t : Timetable) (s area : List ℕ) → (0 < outcome t s area .number → outcome t s area .number < SLOT-MISSED → ⊥) → Passes t s (length area)
+passes t s area = at (outcome t s area) (areaAfter t s area) (gives t s area)
+  where
+    as-read : (v : Verdict) (read : ReadRequest) → RequestRead s read → StagesSay t read (length area) v → StagesSay t (readRequest s) (length area) v
+    as-read v read e = subst (λ (y : ReadRequest). StagesSay t y (length area) v) (sym (request-is s read e))
+
+    at : (r : Outcome) (out : List ℕ) → Gives t s area r out → (0 < r .number → r .number < SLOT-MISSED → ⊥) → Passes t s (length area)
+    at r out (early a d x p) n = let k = refusal-number t s (length area) x (as-read (Refused x) a d p) in absurd (n (k .0) (k .1))
+    at r out (schedule a d p u v w) n = as-read Passed a d p
+    at r out (wanting a d p k x w) n = as-read Passed a d p
+
+module _ (t : Timetable) (s s′ area : List ℕ) (larger : LargerT s s′) where
+  abbrev limit : ℕ
+  limit = readRequest s .request .limit
+
+  -- What is read differs in T alone, so the plan of length 0 is the same.
+  same-request : readRequest s′ ≡ withT (readRequest s′ .request .limit) (readRequest s)
+  same-request =
+      let a = larger .read′ ∙ sym (larger .read) in
+      let b = larger .slot in
+      let c = larger .asks in
+      λ j. record { reading = a j; request = record { slot = b j; limit = readRequest s′ .request .limit; asks = c j } }
+
+  same-start : startPlan t (readRequest s′ .request) ≡ startPlan t (readRequest s .request)
+  unfolding startPlan
+  same-start = ap (λ (read : ReadRequest). startPlan t (read .request)) same-request
+
+  -- Any answer but 11 is the same.
+  unmoved : outcome t s area .number ≢ LENGTHS-EXHAUSTED → (outcome t s′ area ≡ outcome t s area) × (areaAfter t s′ area ≡ areaAfter t s area)
+  unfolding outcome areaAfter
+  unmoved n =
+      let e = answer-raised t s s′ (length area) same-request (larger .larger) n in
+      (ap outcomeOf e, ap (λ (a : Answer). written a area) e)
+
+  -- After an 11: what would be accepted, or missed, up to T would have been so with T.
+  raised-longer : outcome t s area .number ≡ LENGTHS-EXHAUSTED → outcome t s′ area .number ≡ ACCEPTED → limit < outcome t s′ area .timetable .length
+  raised-longer z y = at (decLt limit n)
+    where
+      n : ℕ
+      n = outcome t s′ area .timetable .length
+
+      at : Dec (limit < n) → limit < n
+      at (yes l) = l
+      at (no l) =
+          let w = shortest t s′ area (passes t s′ area (λ a b. omega (arith, y))) .accepted n .0 (y, refl) in
+          let x = subst (λ (p : Plan). HasPlacement p n × ((m : ℕ) → m < n → PassedOver p m)) same-start (w .1, w .2) in
+          let v = shortest t s area (passes t s area (λ a b. omega (arith, z))) .accepted n .1 (omega arith, x .0, x .1) in
+          absurd (omega (arith, z, v .0))
+
+  raised-later : outcome t s area .number ≡ LENGTHS-EXHAUSTED → outcome t s′ area .number ≡ SLOT-MISSED → limit ≤ outcome t s′ area .place
+  raised-later z y = at (decLt k limit)
+    where
+      k : ℕ
+      k = outcome t s′ area .place
+
+      at : Dec (k < limit) → limit ≤ k
+      at (no l) = omega arith
+      at (yes l) =
+          let w = shortest t s′ area (passes t s′ area (λ a b. omega (arith, y))) .missed k .0 (y, refl) in
+          let x = subst (λ (p : Plan). ((m : ℕ) → m ≤ k → PassedOver p m) × SlotBreaks p k) same-start (w .1, w .2) in
+          let v = shortest t s area (passes t s area (λ a b. omega (arith, z))) .missed k .1 (l, x .0, x .1) in
+          absurd (omega (arith, z, v .0))
+
+pub raising-T : RaisingT
+raising-T t s s′ area larger = record {
+  missed = λ e. unmoved t s s′ area larger (λ z. omega (arith, e, z));
+  accepted = λ e. unmoved t s s′ area larger (λ z. omega (arith, e, z));
+  before = λ _ _ n. unmoved t s s′ area larger n;
+  longer = raised-longer t s s′ area larger;
+  later = raised-later t s s′ area larger;
+}

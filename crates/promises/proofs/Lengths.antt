@@ -6,7 +6,6 @@ use mathlib.Core.Logic.{_↔_, _⊎_, inl, inr}
 use mathlib.Core.Option.{Option, none, some}
 use mathlib.Core.Path.{_≡_, refl, sym, ap, _∙_, subst}
 use native.Mathlib.Decide.{decLt}
-use native.Mathlib.Nat.{zero-add}
 use native.Mathlib.Omega.{arith}
 use Prim.Native.Nat.{ℕ, suc, _-_, _≤_, _<_}
 use Rattle.change.proofs.Answers.{Gets, Admitted, refused, accepted, no-slot, no-length, gets}
@@ -21,27 +20,23 @@ use Rattle.numbers.proofs.ChainLaws.{not-passed}
 use Rattle.numbers.specs.declared.Refusal.{Refusal}
 use Rattle.numbers.specs.declared.Verdict.the-variants.{Passed, Refused}
 use Rattle.records.specs.declared.Request.{Request}
-use Rattle.numbers.specs.Numbers.{ACCEPTED, NO-SCHEDULE}
+use Rattle.numbers.specs.Numbers.{ACCEPTED, SLOT-MISSED, LENGTHS-EXHAUSTED}
 use Rattle.records.specs.Request.{readRequest}
 use Rattle.slots.specs.Limits.{LONGEST}
 use Rattle.timetable.specs.declared.Timetable.{Timetable}
 use Rattle.timetable.specs.Timetable.{entryOf}
 use Rattle.transition.proofs.Plans.{Fit}
-use Rattle.transition.proofs.Reach.{fit-reached, reach-past}
+use Rattle.transition.proofs.Reach.{fit-reached}
 use Rattle.transition.proofs.Search.{PassedFirst}
 use Rattle.transition.proofs.RuleThreeLaws.{goes-kept, longer-breaks}
 use Rattle.transition.proofs.Walk.{step-before, reach-before}
 use Rattle.transition.specs.declared.Plan.{Plan}
-use Rattle.transition.specs.Reach.{reach, AnyoneBreaks, PassedOver, HasPlacement, CannotReach}
+use Rattle.transition.specs.Reach.{reach, AnyoneBreaks, PassedOver, HasPlacement, SlotBreaks, CannotReach}
 use Rattle.transition.specs.Transition.{longer}
 
 -- Two plans that one length reaches are the same.
 same-plan : (o : Option Plan) (p q : Plan) → o ≡ some p → o ≡ some q → p ≡ q
 same-plan o p q a b = cc
-
--- A length that is reached is not out of reach.
-not-both : (o : Option Plan) (p : Plan) → o ≡ some p → o ≡ none → ⊥
-not-both o p a b = let z : _≡_ {A = ℕ} 0 1 = cc in omega arith
 
 module _ (plan : Plan) (fit : Fit 0 plan) where
   -- A length where rule 4 fails is passed over, and it fails where a length is.
@@ -69,9 +64,9 @@ module _ (plan : Plan) (fit : Fit 0 plan) where
       let q : w .0 ≡ p = same-plan (reach plan n) (w .0) p (w .1) e in
       passed-over n l p e z .2 (w .2 .0) (subst (λ (x : Plan). CyclicPlacement (x .entries) (w .2 .0)) q (w .2 .1))
 
-  -- Past a slot that the urgent rule cannot give, nothing can be reached.
-  cannot-reach : (k n : ℕ) → k < n → k ≤ LONGEST → (p : Plan) → reach plan k ≡ some p → placement (p .entries) ≡ none → longer k p ≡ none → CannotReach plan n
-  cannot-reach k n l m p e z h = (k, l, p, e, longer-breaks k p (fit-reached plan fit k m p e) z h)
+  -- A slot that the urgent rule cannot give, after a length without a placement, breaks a bound.
+  slot-breaks : (k : ℕ) → k ≤ LONGEST → (p : Plan) → reach plan k ≡ some p → placement (p .entries) ≡ none → longer k p ≡ none → SlotBreaks plan k
+  slot-breaks k m p e z h = (p, e, longer-breaks k p (fit-reached plan fit k m p e) z h)
 
   -- A length that is reached can be reached: each slot before it was given with every bound kept.
   reached-not-cannot : (n : ℕ) → n ≤ LONGEST → (p : Plan) → reach plan n ≡ some p → CannotReach plan n → ⊥
@@ -80,8 +75,9 @@ module _ (plan : Plan) (fit : Fit 0 plan) where
       let x = reach-before plan fit (suc k) (n - suc k) p (ap (reach plan) (omega (arith, c .1)) ∙ e) in
       let w = step-before plan fit k (x .0) (x .1) in
       let f = fit-reached plan fit k (omega (arith, c .1)) (w .0) (w .1) in
-      let q : c .2 ≡ w .0 = same-plan (reach plan k) (c .2) (w .0) (c .3) (w .1) in
-      goes-kept (w .0 .entries) (f .ranged) (w .2 .u) (w .2 .goes) (subst (λ (y : Plan). AnyoneBreaks (y .entries)) q (c .4))
+      let b : SlotBreaks plan k = c .2 in
+      let q : b .0 ≡ w .0 = same-plan (reach plan k) (b .0) (w .0) (b .1) (w .1) in
+      goes-kept (w .0 .entries) (f .ranged) (w .2 .u) (w .2 .goes) (subst (λ (y : Plan). AnyoneBreaks (y .entries)) q (b .2))
 
 -- ---- the answer
 
@@ -106,6 +102,19 @@ module _ (t : Timetable) (s : List ℕ) (area : ℕ) (pass : verdictBefore t (re
   -- Where the first k lengths are passed over, one with a placement is none of them.
   none-has : Admitted t r area → (k : ℕ) → k ≤ suc LONGEST → PassedFirst k 0 plan → (n : ℕ) → n < k → HasPlacement plan n → ⊥
   none-has p k l h n q w = let x = h n q in has-not-none plan (fit p) n (omega arith) (x .0) (x .1) (x .2) w
+
+  -- The slot after a length that was passed over, where the urgent rule can't give it.
+  breaks : Admitted t r area → (k : ℕ) → k < r .limit → PassedFirst (suc k) 0 plan → (q : Plan) → reach plan k ≡ some q → longer k q ≡ none → SlotBreaks plan k
+  breaks p k l b q h f =
+      let w = b k (omega arith) in
+      let y : w .0 ≡ q = same-plan (reach plan k) (w .0) q (w .1) h in
+      slot-breaks plan (fit p) k (omega (arith, p .range .limit)) q h (subst (λ (x : Plan). placement (x .entries) ≡ none) y (w .2)) f
+
+  -- A slot that breaks a bound is not given, so no length past it is reached.
+  not-past : Admitted t r area → (k n : ℕ) → k < n → n ≤ LONGEST → SlotBreaks plan k → (p : Plan) → reach plan n ≡ some p → ⊥
+  not-past p k n l m b q e = reached-not-cannot plan (fit p) n m q e (k, l, b)
+
+  -- ---- accepted
 
   abbrev Accepted : ℕ → Answer → Type 0
   Accepted n a = (a .number ≡ ACCEPTED) × (a .timetable .length ≡ n)
@@ -132,39 +141,105 @@ module _ (t : Timetable) (s : List ℕ) (area : ℕ) (pass : verdictBefore t (re
     where
       at : Dec (n < suc k) → ⊥
       at (yes z) = none-has p (suc k) (omega (arith, p .range .limit)) b n z (w .1)
-      at (no z) =
-          not-both (reach plan n) (w .1 .0) (w .1 .1)
-          (reach-past k 0 plan q h (ap (λ (x : ℕ). longer x q) (zero-add k) ∙ f) n (omega arith))
+      at (no z) = not-past p k n (omega arith) (omega (arith, w .0, p .range .limit)) (breaks p k l b q h f) (w .1 .0) (w .1 .1)
   accepted-from n a (no-length e p b) w = absurd (none-has p (suc (r .limit)) (omega (arith, p .range .limit)) b n (omega (arith, w .0)) (w .1))
 
   pub accepted-iff : (n : ℕ) → Accepted n (answer t s area) ↔ Schedule n
   accepted-iff n = (accepted-to n (answer t s area) (gets t s area), accepted-from n (answer t s area) (gets t s area))
 
+  -- Every length 0 to n is passed over.
+  abbrev AllPassed : ℕ → Type 0
+  AllPassed n = (m : ℕ) → m ≤ n → PassedOver plan m
+
+  -- A length that rule 4 places is neither passed over nor out of reach.
+  placed-neither : Admitted t r area → (k : ℕ) → k ≤ LONGEST → (q : Plan) → reach plan k ≡ some q → (ps : List Place) → placement (q .entries) ≡ some ps
+      → PassedOver plan k ⊎ CannotReach plan k → ⊥
+  placed-neither p k l q h ps f (inl x) = placed-not-passed plan (fit p) k l q h ps f x
+  placed-neither p k l q h ps f (inr x) = reached-not-cannot plan (fit p) k l q h x
+
+  -- ---- 11
+
+  abbrev Exhausted : Answer → Type 0
+  Exhausted a = (a .number ≡ LENGTHS-EXHAUSTED) × (a .place ≡ r .limit)
+
+  exhausted-to : (a : Answer) → Gets t s area a → Exhausted a → AllPassed (r .limit)
+  exhausted-to a (refused q e l h) z = absurd (not-refused q e)
+  exhausted-to a (accepted e p k l b q h ps f) z = absurd (omega (arith, z .0))
+  exhausted-to a (no-slot e p k l b q h f) z = absurd (omega (arith, z .0))
+  exhausted-to a (no-length e p b) z = λ m l. all-passed p (suc (r .limit)) (omega (arith, p .range .limit)) b m (omega arith)
+
+  exhausted-from : (a : Answer) → Gets t s area a → AllPassed (r .limit) → Exhausted a
+  exhausted-from a (refused q e l h) w = absurd (not-refused q e)
+  exhausted-from a (accepted e p k l b q h ps f) w = absurd (placed-neither p k (omega (arith, p .range .limit)) q h ps f (inl (w k l)))
+  exhausted-from a (no-slot e p k l b q h f) w =
+      let x = w (suc k) (omega arith) in
+      absurd (not-past p k (suc k) (omega arith) (omega (arith, p .range .limit)) (breaks p k l b q h f) (x .0) (x .1))
+  exhausted-from a (no-length e p b) w = (refl, refl)
+
+  pub exhausted-iff : Exhausted (answer t s area) ↔ AllPassed (r .limit)
+  exhausted-iff = (exhausted-to (answer t s area) (gets t s area), exhausted-from (answer t s area) (gets t s area))
+
+  -- ---- 9
+
+  abbrev Missed : ℕ → Answer → Type 0
+  Missed k a = (a .number ≡ SLOT-MISSED) × (a .place ≡ k)
+
+  abbrev MissedAt : ℕ → Type 0
+  MissedAt k = (k < r .limit) × AllPassed k × SlotBreaks plan k
+
+  missed-to : (n : ℕ) (a : Answer) → Gets t s area a → Missed n a → MissedAt n
+  missed-to n a (refused q e l h) z = absurd (not-refused q e)
+  missed-to n a (accepted e p k l b q h ps f) z = absurd (omega (arith, z .0))
+  missed-to n a (no-slot e p k l b q h f) z =
+      subst MissedAt (z .1) (l, (λ m x. all-passed p (suc k) (omega (arith, p .range .limit)) b m (omega arith)), breaks p k l b q h f)
+  missed-to n a (no-length e p b) z = absurd (omega (arith, z .0))
+
+  missed-from : (n : ℕ) (a : Answer) → Gets t s area a → MissedAt n → Missed n a
+  missed-from n a (refused q e l h) w = absurd (not-refused q e)
+  missed-from n a (accepted e p k l b q h ps f) w = absurd (at (decLt n k))
+    where
+      at : Dec (n < k) → ⊥
+      at (yes x) = not-past p n k x (omega (arith, p .range .limit)) (w .2) q h
+      at (no x) = placed-neither p k (omega (arith, p .range .limit)) q h ps f (inl (w .1 k (omega arith)))
+  missed-from n a (no-slot e p k l b q h f) w = at (decLt n k) (decLt k n)
+    where
+      at : Dec (n < k) → Dec (k < n) → Missed n a
+      at (yes x) _ = absurd (not-past p n k x (omega (arith, p .range .limit)) (w .2) q h)
+      at (no _) (yes x) =
+          let y = w .1 n (omega arith) in
+          absurd (not-past p k n x (omega (arith, w .0, p .range .limit)) (breaks p k l b q h f) (y .0) (y .1))
+      at (no x) (no y) = (refl, omega arith)
+  missed-from n a (no-length e p b) w =
+      let y = all-passed p (suc (r .limit)) (omega (arith, p .range .limit)) b (suc n) (omega (arith, w .0)) in
+      absurd (not-past p n (suc n) (omega arith) (omega (arith, w .0, p .range .limit)) (w .2) (y .0) (y .1))
+
+  pub missed-iff : (k : ℕ) → Missed k (answer t s area) ↔ MissedAt k
+  missed-iff k = (missed-to k (answer t s area) (gets t s area), missed-from k (answer t s area) (gets t s area))
+
+  -- ---- 9 or 11
+
+  abbrev ForWant : Answer → Type 0
+  ForWant a = (a .number ≡ SLOT-MISSED) ⊎ (a .number ≡ LENGTHS-EXHAUSTED)
+
   abbrev Wanting : Type 0
   Wanting = (n : ℕ) → n ≤ r .limit → PassedOver plan n ⊎ CannotReach plan n
 
-  refused-to : (a : Answer) → Gets t s area a → a .number ≡ NO-SCHEDULE → Wanting
+  refused-to : (a : Answer) → Gets t s area a → ForWant a → Wanting
   refused-to a (refused q e l h) z n m = absurd (not-refused q e)
-  refused-to a (accepted e p k l b q h ps f) z n m = absurd (omega arith)
+  refused-to a (accepted e p k l b q h ps f) (inl z) n m = absurd (omega arith)
+  refused-to a (accepted e p k l b q h ps f) (inr z) n m = absurd (omega arith)
   refused-to a (no-slot e p k l b q h f) z n m = at (decLt n (suc k))
     where
       at : Dec (n < suc k) → PassedOver plan n ⊎ CannotReach plan n
       at (yes x) = inl (all-passed p (suc k) (omega (arith, p .range .limit)) b n x)
-      at (no x) =
-          let w = b k (omega arith) in
-          let y : w .0 ≡ q = same-plan (reach plan k) (w .0) q (w .1) h in
-          inr (cannot-reach plan (fit p) k n (omega arith) (omega (arith, p .range .limit)) q h (subst (λ (x : Plan). placement (x .entries) ≡ none) y (w .2)) f)
+      at (no x) = inr (k, omega arith, breaks p k l b q h f)
   refused-to a (no-length e p b) z n m = inl (all-passed p (suc (r .limit)) (omega (arith, p .range .limit)) b n (omega arith))
 
-  refused-from : (a : Answer) → Gets t s area a → Wanting → a .number ≡ NO-SCHEDULE
+  refused-from : (a : Answer) → Gets t s area a → Wanting → ForWant a
   refused-from a (refused q e l h) w = absurd (not-refused q e)
-  refused-from a (accepted e p k l b q h ps f) w = absurd (at (w k l))
-    where
-      at : PassedOver plan k ⊎ CannotReach plan k → ⊥
-      at (inl x) = placed-not-passed plan (fit p) k (omega (arith, p .range .limit)) q h ps f x
-      at (inr x) = reached-not-cannot plan (fit p) k (omega (arith, p .range .limit)) q h x
-  refused-from a (no-slot e p k l b q h f) w = refl
-  refused-from a (no-length e p b) w = refl
+  refused-from a (accepted e p k l b q h ps f) w = absurd (placed-neither p k (omega (arith, p .range .limit)) q h ps f (w k l))
+  refused-from a (no-slot e p k l b q h f) w = inl refl
+  refused-from a (no-length e p b) w = inr refl
 
-  pub refused-iff : (answer t s area .number ≡ NO-SCHEDULE) ↔ Wanting
+  pub refused-iff : ForWant (answer t s area) ↔ Wanting
   refused-iff = (refused-to (answer t s area) (gets t s area), refused-from (answer t s area) (gets t s area))

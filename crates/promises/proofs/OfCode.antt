@@ -3,11 +3,12 @@
 use lib.ListN.{length}
 use mathlib.Core.Bool.{true}
 use mathlib.Core.List.{List, [], _∷_}
-use mathlib.Core.Logic.{_≢_}
+use mathlib.Core.Logic.{_≢_, inl, inr}
 use mathlib.Core.Path.{_≡_, refl, sym, ap, _∙_, subst}
 use Prim.Native.Nat.{ℕ}
 use native.Mathlib.Omega.{arith}
 use Rattle.change.proofs.Answers.{refusal-number}
+use Rattle.change.proofs.GivenLaws.{wanting-number}
 use Rattle.change.proofs.Histories.{sent-accepted, sent-refused}
 use Rattle.change.specs.Change.{answer, areaAfter, outcome}
 use Rattle.change.specs.Controller.{Sent, send, historyOf}
@@ -16,12 +17,12 @@ use Rattle.change.specs.Given.{Accepted, Gives, early, schedule, wanting}
 use Rattle.change.specs.Queried.{OwnerGiven, StandingGiven}
 use Rattle.change.specs.Refused.{StagesSay}
 use Rattle.records.proofs.ReadSteps.{request-is}
-use Rattle.promises.proofs.Kept.{exact, kept-shortfall, one-owner, queries, shortest, sound-stays, stages-kept, windows}
-use Rattle.promises.specs.OfCode.{Meets, Serves, start, accepts, refuses, DemandOne, DemandTwo, DemandThree, DeficitMeans, QueriesOfCode}
-use Rattle.promises.specs.Promises.{QueriesTell, ServesOne, ShortestOf, ShortfallMeans, WindowsKept}
+use Rattle.promises.proofs.Kept.{exact, kept-shortfall, one-owner, queries, raising-T, shortest, sound-stays, stages-kept, windows}
+use Rattle.promises.specs.OfCode.{Meets, Serves, start, accepts, refuses, DemandOne, DemandTwo, DemandThree, DeficitMeans, QueriesOfCode, RaisingTOfCode}
+use Rattle.promises.specs.Promises.{QueriesTell, RaisedT, ServesOne, ShortestOf, ShortfallMeans, WindowsKept}
 use Rattle.records.specs.declared.ReadRequest.{ReadRequest}
 use Rattle.numbers.specs.declared.Verdict.the-variants.{Refused}
-use Rattle.numbers.specs.Numbers.{ACCEPTED, NO-SCHEDULE}
+use Rattle.numbers.specs.Numbers.{ACCEPTED, SLOT-MISSED, LENGTHS-EXHAUSTED}
 use Rattle.records.specs.Reads.{RequestRead}
 use Rattle.records.specs.Request.{readRequest}
 use Rattle.timetable.specs.declared.Timetable.{Timetable}
@@ -36,10 +37,12 @@ module _ (t : Timetable) (s area : List ℕ) (r : Outcome) (out : List ℕ) (m :
 pub demand-one : DemandOne
 demand-one = record {
   given = λ t s area r out m read e x p. let k = stages-kept .refused t s area read e x p in (m .0 ∙ k .0, m .1 ∙ k .1);
-  only = λ t s area r out m n l read e.
+  only = λ t s area r out m n k l read e.
       of-code t s area r out m
-      (λ (o : Outcome) (_ : List ℕ). o .number ≢ ACCEPTED → o .number ≢ NO-SCHEDULE → StagesSay t read (length area) (Refused (record { number = o .number; place = o .place })))
-      (stages-kept .refused-only t s area read e) n l;
+      (λ (o : Outcome) (_ : List ℕ).
+      o .number ≢ ACCEPTED → o .number ≢ SLOT-MISSED → o .number ≢ LENGTHS-EXHAUSTED
+      → StagesSay t read (length area) (Refused (record { number = o .number; place = o .place })))
+      (stages-kept .refused-only t s area read e) n k l;
   refused = λ t s area r out m.
       of-code t s area r out m (λ (o : Outcome) (a : List ℕ). o .number ≢ ACCEPTED → (o .timetable ≡ t) × (o .written ≡ 0) × (a ≡ area))
       (sound-stays .refused t s area);
@@ -66,7 +69,7 @@ demand-two = record {
         omega (arith, k .0, n))
     so t s area read e r out (schedule a d p u v w) n =
         subst (λ (y : ReadRequest). Accepted t (y .request) area u v) (sym (request-is s a d) ∙ request-is s read e) w
-    so t s area read e r out (wanting a d p k w) n = absurd (omega arith)
+    so t s area read e r out (wanting a d p k x w) n = absurd (elim (wanting-number t (a .request) k x w) [ inl z ↦ omega arith | inr z ↦ omega arith ])
 
 -- A controller's history is that of the requests it was sent.
 sent-history : (h : History) → Serves h → (sent : List Sent) × (h ≡ historyOf sent)
@@ -95,6 +98,11 @@ demand-three = record {
   one-owner = of-controller ServesOne one-owner;
   shortest = λ t s area r out m p. of-code t s area r out m (λ (o : Outcome) (_ : List ℕ). ShortestOf t (readRequest s .request) o) (shortest t s area p);
 }
+
+pub raising-T-of-code : RaisingTOfCode
+raising-T-of-code t s s′ area r r′ out out′ m m′ larger =
+    of-code t s area r out m (λ (o : Outcome) (a : List ℕ). RaisedT (readRequest s .request .limit) o a r′ out′)
+    (of-code t s′ area r′ out′ m′ (RaisedT (readRequest s .request .limit) (outcome t s area) (areaAfter t s area)) (raising-T t s s′ area larger))
 
 pub deficit-means : DeficitMeans
 deficit-means = of-controller ShortfallMeans kept-shortfall

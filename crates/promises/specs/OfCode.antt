@@ -1,4 +1,4 @@
--- docs/RULES.md 1.4 to 1.7, demands 1 to 3 of the code: of whatever meets the contract of `change` or of a query, and of a controller that is made of such calls.
+-- docs/RULES.md 1.4 to 1.8, demands 1 to 3 of the code: of whatever meets the contract of `change` or of a query, and of a controller that is made of such calls.
 use lib.ListN.{length}
 use mathlib.Core.Bool.{true}
 use mathlib.Core.List.{List, [], _∷_}
@@ -13,11 +13,11 @@ use Rattle.change.specs.Given.{Accepted, Gives, refusedWith}
 use Rattle.change.specs.Queried.{OwnerGiven, StandingGiven, ownerAnswer, standingAnswer}
 use Rattle.change.specs.Queries.{ownerQuery, standingQuery}
 use Rattle.change.specs.Refused.{StagesSay}
-use Rattle.promises.specs.Promises.{Passes, ServesOne, ShortestOf, ShortfallMeans, WindowsKept}
+use Rattle.promises.specs.Promises.{LargerT, Passes, RaisedT, ServesOne, ShortestOf, ShortfallMeans, WindowsKept}
 use Rattle.records.specs.declared.ReadRequest.{ReadRequest}
 use Rattle.numbers.specs.declared.Refusal.{Refusal}
 use Rattle.numbers.specs.declared.Verdict.the-variants.{Passed, Refused}
-use Rattle.numbers.specs.Numbers.{ACCEPTED, NO-SCHEDULE}
+use Rattle.numbers.specs.Numbers.{ACCEPTED, SLOT-MISSED, LENGTHS-EXHAUSTED}
 use Rattle.records.specs.Reads.{RequestRead}
 use Rattle.records.specs.Request.{readRequest}
 use Rattle.slots.specs.Clocks.{coreSlot, sliceCount}
@@ -42,13 +42,14 @@ pub data Serves : History → Type 0 where
   refuses : (h : History) → Serves h → (s area : List ℕ) (r : Outcome) (out : List ℕ) → Meets (present h) s area r out → r .number ≢ ACCEPTED
       → Serves h
 
--- Demand 1: whenever the rules give a refusal before the search, the code gives its number and its place, and every number but 0 and 9 is such a refusal;
+-- Demand 1: whenever the rules give a refusal before the search, the code gives its number and its place, and every number but 0, 9 and 11 is such a refusal;
 -- no refusal touches a byte of the area or the timetable; an acceptance is sound.
 pub record DemandOne : Type 0 where
   pub given : (t : Timetable) (s area : List ℕ) (r : Outcome) (out : List ℕ) → Meets t s area r out
       → (read : ReadRequest) → RequestRead s read → (x : Refusal) → StagesSay t read (length area) (Refused x)
       → (r ≡ refusedWith t (x .number) (x .place) 0) × (out ≡ area)
-  pub only : (t : Timetable) (s area : List ℕ) (r : Outcome) (out : List ℕ) → Meets t s area r out → r .number ≢ ACCEPTED → r .number ≢ NO-SCHEDULE
+  pub only : (t : Timetable) (s area : List ℕ) (r : Outcome) (out : List ℕ) → Meets t s area r out
+      → r .number ≢ ACCEPTED → r .number ≢ SLOT-MISSED → r .number ≢ LENGTHS-EXHAUSTED
       → (read : ReadRequest) → RequestRead s read → StagesSay t read (length area) (Refused (record { number = r .number; place = r .place }))
   pub refused : (t : Timetable) (s area : List ℕ) (r : Outcome) (out : List ℕ) → Meets t s area r out → r .number ≢ ACCEPTED
       → (r .timetable ≡ t) × (r .written ≡ 0) × (out ≡ area)
@@ -65,12 +66,18 @@ pub record DemandTwo : Type 0 where
   pub exactly : (t : Timetable) (s area : List ℕ) (r : Outcome) (out : List ℕ) → Meets t s area r out ↔ Gives t s area r out
 
 -- Demand 3: every window of the run that the controller makes keeps its bound; no slot serves two; the transition is the shortest, and a request that
--- passes the stages before is refused for want of a schedule exactly if every length up to its limit is passed over or can't be reached.
+-- passes the stages before is refused for want of a schedule exactly if every length up to its limit is passed over or can't be reached, by 9 or by 11 as
+-- promise 5 says.
 pub record DemandThree : Type 0 where
   pub windows : (h : History) → Serves h → WindowsKept h
   pub one-owner : (h : History) → Serves h → ServesOne h
   pub shortest : (t : Timetable) (s area : List ℕ) (r : Outcome) (out : List ℕ) → Meets t s area r out → Passes t s (length area)
       → ShortestOf t (readRequest s .request) r
+
+-- What the commissioning desk reads: whether a larger T would help, of any two outcomes that meet the contract.
+abbrev pub RaisingTOfCode : Type 0
+RaisingTOfCode = (t : Timetable) (s s′ area : List ℕ) (r r′ : Outcome) (out out′ : List ℕ) → Meets t s area r out → Meets t s′ area r′ out′
+    → LargerT s s′ → RaisedT (readRequest s .request .limit) r out r′ out′
 
 -- What the lab reads: the kept shortfall is the largest excess of entitlement over supply, across the changes of a controller.
 abbrev pub DeficitMeans : Type 0

@@ -1,4 +1,4 @@
--- docs/RULES.md 1.4 to 1.7: the promises, as statements about the definitions. Each speaks of the slots and of the rules, never of how something is
+-- docs/RULES.md 1.4 to 1.8: the promises, as statements about the definitions. Each speaks of the slots and of the rules, never of how something is
 -- computed; proofs/Kept.antt proves each under its name. Two wrong programs that a promise shuts out stand under it.
 use lib.ListN.{getD, length}
 use mathlib.Core.Bool.{true}
@@ -24,7 +24,7 @@ use Rattle.records.specs.declared.ReadRequest.{ReadRequest}
 use Rattle.numbers.specs.declared.Refusal.{Refusal}
 use Rattle.numbers.specs.declared.Verdict.the-variants.{Passed, Refused}
 use Rattle.records.specs.declared.Request.{Request}
-use Rattle.numbers.specs.Numbers.{ACCEPTED, NOT-SOUND, SMALL-AREA, BAD-FIELD, OUT-OF-RANGE, NOT-RISING, TOO-EARLY, OVERFULL, BEHIND, NO-SCHEDULE, NOT-LISTED}
+use Rattle.numbers.specs.Numbers.{ACCEPTED, NOT-SOUND, SMALL-AREA, BAD-FIELD, OUT-OF-RANGE, NOT-RISING, TOO-EARLY, OVERFULL, BEHIND, SLOT-MISSED, NOT-LISTED, LENGTHS-EXHAUSTED}
 use Rattle.records.specs.Reads.{Bytes, RequestRange, RefusalRange, RequestRead}
 use Rattle.records.specs.Request.{readRequest}
 use Rattle.records.specs.Written.{requestRecord}
@@ -39,7 +39,7 @@ use Rattle.timetable.specs.Owner.{ownerNumber}
 use Rattle.timetable.specs.History.{History, present, inForce, runOf}
 use Rattle.timetable.specs.Sound.{entriesInRange, isSound}
 use Rattle.timetable.specs.Timetable.{emptyTimetable, entryOf, lists, serves, shortfallAt}
-use Rattle.transition.specs.Reach.{isSearched, HasPlacement, PassedOver, CannotReach}
+use Rattle.transition.specs.Reach.{isSearched, HasPlacement, PassedOver, SlotBreaks, CannotReach}
 
 -- 1. Sound stays sound; a refusal hands back the timetable as given and touches no byte of the area; an accepted record has at most 231 bytes and
 -- fits the area, and the bytes after it stay. (Shuts out: a change that keeps a shortfall of 256 R; a refusal that clears the area.)
@@ -85,13 +85,18 @@ pub record PlacementComplete : Type 0 where
 abbrev pub Passes : Timetable → List ℕ → ℕ → Type 0
 Passes t s area = StagesSay t (readRequest s) area Passed
 
--- 5. For a request that passes the stages before the search: it is accepted with length n exactly if n is at most T and has a cyclic placement, and every
--- shorter length is passed over; it is refused for want of a schedule exactly if every length up to T is passed over or can't be reached.
--- (Shuts out: a controller that refuses everything; one that tries length T only.)
+-- 5. For a request that passes the stages before the search. It is accepted with length n exactly if n is at most T and has a cyclic placement, and every
+-- shorter length is passed over. It gets 11 with place T exactly if every length 0 to T is passed over. It gets 9 with place k exactly if k is below T, every
+-- length 0 to k is passed over, and whoever gets slot k some bound is broken. And it is refused for want of a schedule, which is 9 or 11, exactly if every length up to T
+-- is passed over or can't be reached. (Shuts out: a controller that refuses everything; one that tries length T only; 9 where only slot T would be missed.)
 pub record ShortestOf (t : Timetable) (q : Request) (r : Outcome) : Type 0 where
   pub accepted : (n : ℕ) → ((r .number ≡ ACCEPTED) × (r .timetable .length ≡ n))
       ↔ ((n ≤ q .limit) × HasPlacement (startPlan t q) n × ((m : ℕ) → m < n → PassedOver (startPlan t q) m))
-  pub refused : (r .number ≡ NO-SCHEDULE) ↔ ((n : ℕ) → n ≤ q .limit → PassedOver (startPlan t q) n ⊎ CannotReach (startPlan t q) n)
+  pub exhausted : ((r .number ≡ LENGTHS-EXHAUSTED) × (r .place ≡ q .limit)) ↔ ((n : ℕ) → n ≤ q .limit → PassedOver (startPlan t q) n)
+  pub missed : (k : ℕ) → ((r .number ≡ SLOT-MISSED) × (r .place ≡ k))
+      ↔ ((k < q .limit) × ((n : ℕ) → n ≤ k → PassedOver (startPlan t q) n) × SlotBreaks (startPlan t q) k)
+  pub refused : ((r .number ≡ SLOT-MISSED) ⊎ (r .number ≡ LENGTHS-EXHAUSTED))
+      ↔ ((n : ℕ) → n ≤ q .limit → PassedOver (startPlan t q) n ⊎ CannotReach (startPlan t q) n)
 
 -- So for every request that passes.
 abbrev pub Shortest : Type 0
@@ -106,13 +111,13 @@ pub record Tries : Type 0 where
   pub few : (t : Timetable) (s area : List ℕ) → Passes t s (length area) → outcome t s area .tries ≤ suc (readRequest s .request .limit)
 
 -- 7. Whenever the rules give a refusal before the search, the outcome has its number and its place, no tries, no bytes and the timetable as given, and
--- the area is untouched; and every outcome with a number but 0 and 9 is such a refusal. The lowest stage wins, fields from left to right, and within a field
+-- the area is untouched; and every outcome with a number but 0, 9 and 11 is such a refusal. The lowest stage wins, fields from left to right, and within a field
 -- 3, then 4, then 5. (Shuts out: places told modulo 10; numbers 1 to 5 all told as 6; an overfull listing refused before its fields are read.)
 pub record Stages : Type 0 where
   pub refused : (t : Timetable) (s area : List ℕ) (read : ReadRequest) → RequestRead s read → (x : Refusal) → StagesSay t read (length area) (Refused x)
       → (outcome t s area ≡ refusedWith t (x .number) (x .place) 0) × (areaAfter t s area ≡ area)
   pub refused-only : (t : Timetable) (s area : List ℕ) (read : ReadRequest) → RequestRead s read
-      → outcome t s area .number ≢ ACCEPTED → outcome t s area .number ≢ NO-SCHEDULE
+      → outcome t s area .number ≢ ACCEPTED → outcome t s area .number ≢ SLOT-MISSED → outcome t s area .number ≢ LENGTHS-EXHAUSTED
       → StagesSay t read (length area) (Refused (record { number = outcome t s area .number; place = outcome t s area .place }))
   pub fields : (s : List ℕ) → RequestRead s (readRequest s)
   pub fields-only : (s : List ℕ) (x : ReadRequest) → RequestRead s x → readRequest s ≡ x
@@ -173,6 +178,33 @@ pub record Exact : Type 0 where
 -- 12. The names of the numbers and of the limits stand for the figures of docs/RULES.md 3.3 and 7.1. (Shuts out: two numbers changed for each other; a T of 65.)
 pub record Figures : Type 0 where
   pub numbers :
-      (ACCEPTED ∷ NOT-SOUND ∷ SMALL-AREA ∷ BAD-FIELD ∷ OUT-OF-RANGE ∷ NOT-RISING ∷ TOO-EARLY ∷ OVERFULL ∷ BEHIND ∷ NO-SCHEDULE ∷ NOT-LISTED ∷ [])
-      ≡ (0 ∷ 1 ∷ 2 ∷ 3 ∷ 4 ∷ 5 ∷ 6 ∷ 7 ∷ 8 ∷ 9 ∷ 10 ∷ [])
+      (ACCEPTED ∷ NOT-SOUND ∷ SMALL-AREA ∷ BAD-FIELD ∷ OUT-OF-RANGE ∷ NOT-RISING ∷ TOO-EARLY ∷ OVERFULL ∷ BEHIND ∷ SLOT-MISSED ∷ NOT-LISTED ∷ LENGTHS-EXHAUSTED ∷ [])
+      ≡ (0 ∷ 1 ∷ 2 ∷ 3 ∷ 4 ∷ 5 ∷ 6 ∷ 7 ∷ 8 ∷ 9 ∷ 10 ∷ 11 ∷ [])
   pub limits : (IDS ∷ LONGEST ∷ WHOLE ∷ AREA ∷ LARGEST-BOUND ∷ LARGEST-K ∷ LAST-SLOT ∷ IDLE ∷ []) ≡ (32 ∷ 64 ∷ 256 ∷ 231 ∷ 8 ∷ 8 ∷ 281474976710655 ∷ 255 ∷ [])
+
+-- The request s, and the same request with a larger T, s′: both are read, and they ask for the same slot and the same listing.
+pub record LargerT (s s′ : List ℕ) : Type 0 where
+  pub read : readRequest s .reading ≡ Whole
+  pub read′ : readRequest s′ .reading ≡ Whole
+  pub slot : readRequest s′ .request .slot ≡ readRequest s .request .slot
+  pub asks : readRequest s′ .request .asks ≡ readRequest s .request .asks
+  pub larger : readRequest s .request .limit ≤ readRequest s′ .request .limit
+
+-- 13. Raising T: what a request gets with T, the outcome r and the area `out`, beside what the same request gets with a larger T, r′ and `out′`.
+-- (Shuts out: 9 and 11 changed for each other; a longer transition taken because a larger T allows it.)
+pub record RaisedT (limit : ℕ) (r : Outcome) (out : List ℕ) (r′ : Outcome) (out′ : List ℕ) : Type 0 where
+  -- raising T can't help after a 9: the answer is the same, its place and tries included
+  pub missed : r .number ≡ SLOT-MISSED → (r′ ≡ r) × (out′ ≡ out)
+  -- an acceptance is the same, with the same bytes
+  pub accepted : r .number ≡ ACCEPTED → (r′ ≡ r) × (out′ ≡ out)
+  -- so is a refusal before the search
+  pub before : r .number ≢ SLOT-MISSED → r .number ≢ ACCEPTED → r .number ≢ LENGTHS-EXHAUSTED → (r′ ≡ r) × (out′ ≡ out)
+  -- after an 11 raising T may help: what is accepted then has a length above T
+  pub longer : r .number ≡ LENGTHS-EXHAUSTED → r′ .number ≡ ACCEPTED → limit < r′ .timetable .length
+  -- and if a slot is missed then, it is none before T
+  pub later : r .number ≡ LENGTHS-EXHAUSTED → r′ .number ≡ SLOT-MISSED → limit ≤ r′ .place
+
+-- So for every timetable, request and area.
+abbrev pub RaisingT : Type 0
+RaisingT = (t : Timetable) (s s′ area : List ℕ) → LargerT s s′
+    → RaisedT (readRequest s .request .limit) (outcome t s area) (areaAfter t s area) (outcome t s′ area) (areaAfter t s′ area)

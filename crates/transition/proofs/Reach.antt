@@ -41,7 +41,7 @@ reach-last (suc k) n plan = at (longer n plan) (λ q. reach-last k (suc n) q)
     at (some q) ih = ih q ∙ ap (λ (x : ℕ). onward x (reachFrom k (suc n) q)) (omega arith)
 
 -- Past a slot that cannot be given nothing is reached.
-pub reach-past : (k n : ℕ) (plan p : Plan) → reachFrom k n plan ≡ some p → longer (n + k) p ≡ none → (m : ℕ) → k < m → reachFrom m n plan ≡ none
+reach-past : (k n : ℕ) (plan p : Plan) → reachFrom k n plan ≡ some p → longer (n + k) p ≡ none → (m : ℕ) → k < m → reachFrom m n plan ≡ none
 unfolding onward
 reach-past k n plan p e h (suc m) l = at (ℕ-discrete m k) (λ q. reach-past k n plan p e h m q)
   where

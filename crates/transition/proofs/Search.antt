@@ -1,8 +1,8 @@
 -- The search of lengths ends as it says: at the first length with a placement, at a slot that cannot be given, or past the last length.
--- By induction on the lengths that remain. Assumes nothing.
+-- So it does not look ahead to T: one that came to no end at T ends alike with a larger one. By induction on the lengths that remain. Assumes nothing.
 use mathlib.Core.List.{List}
 use mathlib.Core.Option.{Option, none, some}
-use mathlib.Core.Path.{_≡_, refl, ap, _∙_}
+use mathlib.Core.Path.{_≡_, refl, sym, ap, _∙_}
 use native.Mathlib.Nat.{add-zero}
 use native.Mathlib.Omega.{arith}
 use Prim.Native.Nat.{ℕ, zero, suc, _+_, _≤_, _<_}
@@ -111,3 +111,41 @@ search-ends (suc left) n plan = at (placement (plan .entries)) refl (longer n pl
     at none e none f ih = rw (e, searchFrom, f) (missed zero (omega arith) (passed-one n plan e) plan refl (rw add-zero f) (rw add-zero))
     at none e (some next) f ih = rw (e, searchFrom, f) (ended-suc left n plan next (searchFrom left (suc n) next) e f (ih next))
     at (some ps) e q f ih = rw (e, searchFrom) (found-here (suc left) n plan ps e)
+
+-- ---- a larger T
+
+-- The search at a length with a placement, at a slot that is missed, and where one more slot is given.
+search-found : (left n : ℕ) (plan : Plan) (ps : List Place) → placement (plan .entries) ≡ some ps → searchFrom left n plan ≡ ended (Found n) (placed plan ps)
+unfolding searchFrom
+search-found zero n plan ps e = rw (e, searchFrom)
+search-found (suc left) n plan ps e = rw (e, searchFrom)
+
+search-missed : (left n : ℕ) (plan : Plan) → placement (plan .entries) ≡ none → longer n plan ≡ none → searchFrom (suc left) n plan ≡ ended (Missed n) plan
+unfolding searchFrom
+search-missed left n plan e f = rw (e, searchFrom, f)
+
+search-passed : (left n : ℕ) (plan next : Plan) → placement (plan .entries) ≡ none → longer n plan ≡ some next
+    → searchFrom (suc left) n plan ≡ passed (searchFrom left (suc n) next)
+unfolding searchFrom
+search-passed left n plan next e f = rw (e, searchFrom, f)
+
+-- A search that did not come to its last length in vain ends alike if there are more.
+pub search-raised : (left more n : ℕ) (plan : Plan) → left ≤ more → ((m : ℕ) → searchFrom left n plan .ending ≡ Exhausted m → ⊥)
+    → searchFrom more n plan ≡ searchFrom left n plan
+unfolding searchFrom ended passed
+search-raised zero more n plan l h = at (placement (plan .entries)) refl
+  where
+    at : (o : Option (List Place)) → placement (plan .entries) ≡ o → searchFrom more n plan ≡ searchFrom zero n plan
+    at none e = absurd (h n (rw (e, searchFrom)))
+    at (some ps) e = search-found more n plan ps e ∙ sym (search-found zero n plan ps e)
+search-raised (suc left) zero n plan l h = absurd (omega arith)
+search-raised (suc left) (suc more) n plan l h = at (placement (plan .entries)) refl (longer n plan) refl (λ next. search-raised left more (suc n) next (omega arith))
+  where
+    at : (o : Option (List Place)) → placement (plan .entries) ≡ o → (q : Option Plan) → longer n plan ≡ q
+        → ((next : Plan) → ((m : ℕ) → searchFrom left (suc n) next .ending ≡ Exhausted m → ⊥) → searchFrom more (suc n) next ≡ searchFrom left (suc n) next)
+        → searchFrom (suc more) n plan ≡ searchFrom (suc left) n plan
+    at (some ps) e q f ih = search-found (suc more) n plan ps e ∙ sym (search-found (suc left) n plan ps e)
+    at none e none f ih = search-missed more n plan e f ∙ sym (search-missed left n plan e f)
+    at none e (some next) f ih =
+        let p = search-passed left n plan next e f in
+        search-passed more n plan next e f ∙ ap passed (ih next (λ m z. h m (ap (λ (x : Searched). x .ending) p ∙ z))) ∙ sym p

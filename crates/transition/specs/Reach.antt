@@ -39,9 +39,13 @@ PassedOver plan n =
 abbrev pub HasPlacement : Plan → ℕ → Type 0
 HasPlacement plan n = (p : Plan) × (reach plan n ≡ some p) × ((offsets : ℕ → ℕ) × CyclicPlacement (p .entries) offsets)
 
--- Length n can't be reached: at some slot before it, whoever gets that slot, some bound is broken.
+-- Transition slot k breaks a bound: it is reached, and whoever gets it, some bound is broken.
+abbrev pub SlotBreaks : Plan → ℕ → Type 0
+SlotBreaks plan k = (p : Plan) × (reach plan k ≡ some p) × AnyoneBreaks (p .entries)
+
+-- Length n can't be reached: some slot before it breaks a bound.
 abbrev pub CannotReach : Plan → ℕ → Type 0
-CannotReach plan n = (k : ℕ) × (k < n) × (p : Plan) × (reach plan k ≡ some p) × AnyoneBreaks (p .entries)
+CannotReach plan n = (k : ℕ) × (k < n) × SlotBreaks plan k
 
 -- Helper of isSearched: rule 4 gave no placement.
 unfoldable pub isNone : Option (List Place) → Bool

@@ -17,14 +17,14 @@ new-timetable-requires c κs =
     let p = c .before .before .before .before .pre in
     (p .size _ (c .before .ending .given .1), p .slot)
 
-enum-told : tie.Need-enum-told
-enum-told c = search needs
+enum-known-ending-2 : tie.Need-enum-known-ending-2
+enum-known-ending-2 c = search needs
 
 no-schedule-requires : tie.Need-no-schedule-requires
 no-schedule-requires c κs = search needs
 
-enum-told-2 : tie.Need-enum-told-2
-enum-told-2 c = search needs
+enum-known-ending-3 : tie.Need-enum-known-ending-3
+enum-known-ending-3 c = search needs
 
 no-schedule-requires-2 : tie.Need-no-schedule-requires-2
 no-schedule-requires-2 c κs = search needs
@@ -40,14 +40,16 @@ returns c =
 returns-2 : tie.Need-returns-2
 unfolding numberOf placeOf timetableOf
 returns-2 c =
-    let a = c .before .before .before .before .args in
-    c .no-schedule .ensures ∙ sym (answer-ended (a .t) (a .asked) (a .found) _ (c .before .enum-told .given .1))
+    let e = c .before .before in
+    let a = e .before .before .before .args in
+    c .no-schedule .ensures ∙ sym (answer-ended (a .t) (a .asked) (a .found) _ (e .ending2 .given .1))
 
 returns-3 : tie.Need-returns-3
 unfolding numberOf placeOf timetableOf
 returns-3 c =
-    let a = c .before .before .before .before .args in
-    c .no-schedule2 .ensures ∙ sym (answer-ended (a .t) (a .asked) (a .found) _ (c .before .enum-told2 .given .1))
+    let e = c .before .before in
+    let a = e .before .before .before .args in
+    c .no-schedule2 .ensures ∙ sym (answer-ended (a .t) (a .asked) (a .found) _ (e .ending3 .given .1))
 
 pub finish-spec : {M : Type 1} → statement M
 finish-spec =
@@ -55,9 +57,9 @@ finish-spec =
     (tie.spec
     enum-known-ending
     new-timetable-requires
-    enum-told
+    enum-known-ending-2
     no-schedule-requires
-    enum-told-2
+    enum-known-ending-3
     no-schedule-requires-2
     returns
     returns-2
