@@ -62,7 +62,7 @@ pub fn change(timetable: &Timetable, request: &[u8], area: &mut [u8]) -> Outcome
     }
 }
 
-/// The lowest stage wins: 1, 2, the fields, then 6, 7, 8 and 9.
+/// The lowest stage wins: 1, 2, the fields, then 6, 7, 8, and last 9 or 11.
 fn answer(timetable: &Timetable, record: &[u8], area: usize) -> Result<(Timetable, u16), Refusal> {
     if !timetable.sound() {
         return Err(Refusal::plain(numbers::NOT_SOUND, 0));
@@ -123,11 +123,12 @@ fn search(request: &Request, at_request: Shortfalls) -> Result<Schedule, Refusal
         if let Some(offsets) = placement(&request.listing, &shortfalls) {
             return Ok(Schedule { owners, offsets, shortfalls, tries });
         }
-        let none = Refusal { number: numbers::NO_SCHEDULE, place: 0, tries };
+        let place = owners.len() as u64;
         if owners.len() == usize::from(request.longest) {
-            return Err(none);
+            return Err(Refusal { number: numbers::LENGTHS_EXHAUSTED, place, tries });
         }
-        let owner = most_urgent(&request.listing, &shortfalls).ok_or(none)?;
+        let missed = Refusal { number: numbers::SLOT_MISSED, place, tries };
+        let owner = most_urgent(&request.listing, &shortfalls).ok_or(missed)?;
         pass_slot(&request.listing, &mut shortfalls, owner);
         owners.push(owner);
     }

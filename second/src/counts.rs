@@ -3,24 +3,41 @@
 use crate::breaks::CLAUSES;
 use crate::change::{change, AREA};
 use crate::generate::Generator;
+use crate::numbers::{ACCEPTED, LENGTHS_EXHAUSTED, SLOT_MISSED};
 use crate::probe::{put, read_probe, timetable_of, Probe, Reply};
 use crate::probes::{Made, Origin, Probes};
-use crate::timetable::Timetable;
+use crate::records::{read_request, with_longest};
+use crate::timetable::{Timetable, LONGEST_TRANSITION};
 
-/// The numbers of answers, 0 to 10.
-const NUMBERS: usize = 11;
+/// The numbers of answers, 0 to 11.
+const NUMBERS: usize = 12;
 /// The kinds of probes that have a number.
 const KINDS: [&str; 4] = ["change", "owner", "standing", "empty"];
 /// The classes of transition lengths.
 const LENGTHS: [&str; 4] = ["0", "1", "2 to 8", "over 8"];
+/// The classes of refusals for want of a schedule by their place, and of 11 by what T 64 brings.
+const WANTS: [&str; 8] = [
+    "9 at place 0",
+    "9 at a place above 0",
+    "11 at T 0",
+    "11 at T 1 to 63",
+    "11 at T 64",
+    "11, accepted with T 64",
+    "11, refused 9 with T 64",
+    "11, refused 11 with T 64",
+];
+/// The classes of requests that are put again with a larger T alone, by both answers.
+const AGAIN: [&str; 4] = ["11, then 0", "11, then 9", "11, then 11", "9, then 9"];
 /// The classes of area sizes.
 const AREAS: [&str; 5] = ["0", "1 to 229", "230", "231", "over 231"];
 
-/// The numbers and lengths of a stream of requests.
+/// The numbers, refusals for want of a schedule, requests put again and lengths of a stream.
 #[derive(Default)]
 pub struct RequestCounts {
     pub numbers: [u64; NUMBERS],
-    pub lengths: [u64; 4],
+    pub wants: [u64; WANTS.len()],
+    pub again: [u64; AGAIN.len()],
+    pub lengths: [u64; LENGTHS.len()],
 }
 
 impl RequestCounts {
@@ -28,35 +45,43 @@ impl RequestCounts {
     pub fn of(requests: Generator) -> RequestCounts {
         let mut counts = RequestCounts::default();
         let mut timetable = Timetable::empty();
+        let mut before = (Vec::new(), ACCEPTED);
         for request in requests {
             let outcome = change(&timetable, &request, &mut [0; AREA]);
-            timetable = outcome.timetable;
             add(&mut counts.numbers, usize::from(outcome.number));
-            if outcome.number == 0 {
-                add(&mut counts.lengths, length_class(timetable.length));
+            count_want(&mut counts.wants, &timetable, &request, (outcome.number, outcome.place));
+            if raises(&before.0, &request) {
+                add(&mut counts.again, again_class(before.1, outcome.number));
             }
+            if outcome.number == ACCEPTED {
+                add(&mut counts.lengths, length_class(outcome.timetable.length));
+            }
+            timetable = outcome.timetable;
+            before = (request, outcome.number);
         }
         counts
     }
 
-    /// A row for each number that a request can have, and for each class of length.
-    pub fn table(&self) -> String {
-        let mut rows = vec![row(&["Answer", "Count"]), rule(2)];
-        for (number, count) in self.numbers.iter().enumerate().take(NUMBERS - 1) {
-            rows.push(row(&[&format!("number {number}"), &count.to_string()]));
-        }
-        for (class, count) in LENGTHS.iter().zip(self.lengths) {
-            rows.push(row(&[&format!("transition length {class}"), &count.to_string()]));
-        }
-        rows.concat()
+    /// The tables: numbers, refusals for want of a schedule, requests put again, and lengths.
+    pub fn tables(&self) -> String {
+        let numbers: Vec<String> = (0..NUMBERS).map(|number| number.to_string()).collect();
+        let tables = [
+            class_table("Number", &numbers, &self.numbers),
+            class_table("For want of a schedule", &WANTS, &self.wants),
+            class_table("Again with a larger T", &AGAIN, &self.again),
+            class_table("Transition length", &LENGTHS, &self.lengths),
+        ];
+        tables.join("\n")
     }
 }
 
-/// The kinds, numbers, lengths, area sizes and timetables of a stream of probes.
+/// The kinds, numbers, refusals for want of a schedule, lengths, area sizes and timetables of a
+/// stream of probes.
 #[derive(Default)]
 pub struct ProbeCounts {
     pub numbers: [[u64; NUMBERS]; KINDS.len()],
     pub bad: u64,
+    pub wants: [u64; WANTS.len()],
     pub lengths: [u64; LENGTHS.len()],
     pub areas: [u64; AREAS.len()],
     pub origins: Vec<OriginCount>,
@@ -89,11 +114,11 @@ impl ProbeCounts {
     fn count(&mut self, made: &Made) {
         let probe = read_probe(&made.content);
         match put(&probe) {
-            Reply::Change { number, image, area, .. } => {
+            Reply::Change { number, place, image, area, .. } => {
                 add(&mut self.numbers[0], usize::from(number));
                 add(&mut self.areas, area_class(area.len()));
-                if let Some(timetable) = timetable_of(&image).filter(|_| number == 0) {
-                    add(&mut self.lengths, length_class(timetable.length));
+                if let Some(left) = timetable_of(&image) {
+                    self.count_end(&left, request_in(&probe), (number, place));
                 }
             }
             Reply::Owner { number, .. } => add(&mut self.numbers[1], usize::from(number)),
@@ -106,6 +131,14 @@ impl ProbeCounts {
         }
     }
 
+    /// A change is counted by the length of its acceptance, or by its want of a schedule.
+    fn count_end(&mut self, left: &Timetable, request: &[u8], (number, place): (u8, u64)) {
+        match number {
+            ACCEPTED => add(&mut self.lengths, length_class(left.length)),
+            _ => count_want(&mut self.wants, left, request, (number, place)),
+        }
+    }
+
     /// An image is counted by how it was made, and whether it is sound.
     fn count_origin(&mut self, origin: Origin, image: &[u8]) {
         let sound = timetable_of(image).is_some_and(|timetable| timetable.sound());
@@ -115,10 +148,17 @@ impl ProbeCounts {
         }
     }
 
-    /// The tables: numbers by kind, lengths, area sizes, and timetables by how they were made.
+    /// The tables: numbers by kind, refusals for want of a schedule, lengths, area sizes, and
+    /// timetables by how they were made.
     pub fn tables(&self) -> String {
-        let parts = [self.number_table(), self.length_table(), self.area_table()];
-        format!("{}\n{}", parts.join("\n"), self.origin_table())
+        let tables = [
+            self.number_table(),
+            class_table("For want of a schedule", &WANTS, &self.wants),
+            class_table("Transition length", &LENGTHS, &self.lengths),
+            class_table("Area", &AREAS, &self.areas),
+            self.origin_table(),
+        ];
+        tables.join("\n")
     }
 
     /// A column for each kind and a row for each number, then the sums and the bad probes.
@@ -136,16 +176,6 @@ impl ProbeCounts {
     fn kind_row(&self, name: &str, figure: impl Fn(&[u64; NUMBERS]) -> u64) -> String {
         let figures = self.numbers.iter().map(|counts| figure(counts).to_string());
         row(&[vec![name.to_string()], figures.collect()].concat())
-    }
-
-    /// A row for each class of transition length of accepted requests.
-    fn length_table(&self) -> String {
-        class_table("Transition length", &LENGTHS, &self.lengths)
-    }
-
-    /// A row for each class of area size of change probes.
-    fn area_table(&self) -> String {
-        class_table("Area", &AREAS, &self.areas)
     }
 
     /// A row for each way to make a timetable, with the probes and those that were not sound.
@@ -182,10 +212,59 @@ fn image_in(probe: &Probe) -> Option<&[u8]> {
     }
 }
 
+/// The request that a probe has.
+fn request_in(probe: &Probe) -> &[u8] {
+    match probe {
+        Probe::Change { request, .. } => request,
+        _ => &[],
+    }
+}
+
 /// One more of a class.
 fn add(counts: &mut [u64], class: usize) {
     if let Some(count) = counts.get_mut(class) {
         *count += 1;
+    }
+}
+
+/// A refusal for want of a schedule is counted by its place, and an 11 by what T 64 brings.
+fn count_want(
+    counts: &mut [u64],
+    timetable: &Timetable,
+    request: &[u8],
+    (number, place): (u8, u64),
+) {
+    let above = usize::from(place > 0);
+    match number {
+        SLOT_MISSED => add(counts, above),
+        LENGTHS_EXHAUSTED => {
+            let largest = with_longest(request, LONGEST_TRANSITION as u8);
+            let raised = change(timetable, &largest, &mut [0; AREA]).number;
+            add(counts, 2 + above + usize::from(largest == request));
+            add(counts, 5 + again_class(number, raised));
+        }
+        _ => (),
+    }
+}
+
+/// A request differs from the one before in a larger T alone.
+fn raises(before: &[u8], request: &[u8]) -> bool {
+    match (read_request(before), read_request(request)) {
+        (Ok(smaller), Ok(larger)) => {
+            smaller.longest < larger.longest && with_longest(before, larger.longest) == request
+        }
+        _ => false,
+    }
+}
+
+/// The class of a request that is put again: after 11 the answer 0, 9 or 11; after 9 the answer 9.
+fn again_class(before: u8, number: u8) -> usize {
+    match (before, number) {
+        (LENGTHS_EXHAUSTED, ACCEPTED) => 0,
+        (LENGTHS_EXHAUSTED, SLOT_MISSED) => 1,
+        (LENGTHS_EXHAUSTED, LENGTHS_EXHAUSTED) => 2,
+        (SLOT_MISSED, SLOT_MISSED) => 3,
+        _ => AGAIN.len(),
     }
 }
 
@@ -211,10 +290,10 @@ fn area_class(size: usize) -> usize {
 }
 
 /// A table of two columns with a row for each class.
-fn class_table(title: &str, names: &[&str], counts: &[u64]) -> String {
+fn class_table<T: AsRef<str>>(title: &str, names: &[T], counts: &[u64]) -> String {
     let mut rows = vec![row(&[title, "Count"]), rule(2)];
     for (name, count) in names.iter().zip(counts) {
-        rows.push(row(&[name, &count.to_string()[..]]));
+        rows.push(row(&[name.as_ref(), &count.to_string()]));
     }
     rows.concat()
 }

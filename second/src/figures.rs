@@ -98,9 +98,14 @@ pub fn list<T: Display>(numbers: impl IntoIterator<Item = T>) -> String {
 
 /// Numbers as a list with commas and a last "and".
 pub fn list_and<T: Display>(numbers: impl IntoIterator<Item = T>) -> String {
+    list_with(numbers, "and")
+}
+
+/// Numbers as a list with commas and a word before the last one.
+pub fn list_with<T: Display>(numbers: impl IntoIterator<Item = T>, word: &str) -> String {
     let list = list(numbers);
     match list.rsplit_once(", ") {
-        Some((most, last)) => format!("{most} and {last}"),
+        Some((most, last)) => format!("{most} {word} {last}"),
         None => list,
     }
 }

@@ -1,14 +1,19 @@
-//! The run against the queries and the windows; documents that differ from the figures in a block,
-//! an example, the prose or a marker; and every digit of the dictionary and of docs/WORKED.md.
+//! The run against the queries and the windows; the cases by T and by slots, what a larger T changes
+//! and what an old 9 means; documents that differ from the figures in a block, an example, the prose
+//! or a marker; and every digit of the dictionary and of docs/WORKED.md.
 
-use crate::cases::{record, request_b};
+use crate::cases::{record, request_a, request_b, request_d};
 use crate::documents::{cited, faults, Document};
 use crate::figures::{list_and, thousands, Figures};
 use crate::queries::{owner_query, standing_query};
 use crate::random::Random;
+use crate::records::{slot_field, HEAD};
 use crate::run::Run;
 use crate::timetable::{IDLE, LAST_SLOT};
-use crate::worked::{anew, answer_b, answer_e, left_and_returned, run_a, run_b};
+use crate::worked::{
+    anew, answer_b, answer_e, answered, asked, broken, by_longest, bytes_e, left_and_returned,
+    lines_of, nine_before, nine_today, only_owners, run_a, run_b, Waiting,
+};
 use std::ops::Range;
 
 /// A request for case A's or B's listing, or for some of the ids 0 to 3, soon after the base.
@@ -92,6 +97,155 @@ fn worked_cases() {
     assert_eq!(run_a().with(anew()).shortfall(0, 8), 256);
     assert_eq!((run_a().owner(4), run_a().owner(7)), (IDLE, 0));
     assert_eq!((Run::empty().owner(LAST_SLOT), Run::empty().shortfall(0, 9)), (IDLE, 0));
+}
+
+/// The answers to case B's listing after A and to case E, by T, as docs/RULES.md 11 has them.
+#[test]
+fn worked_by_longest() {
+    let told = |run: &Run, request: fn(u8) -> Vec<u8>| -> Vec<(u8, u8, u8, u64, u16)> {
+        let rows = by_longest(run, request).into_iter();
+        rows.map(|(first, last, it)| (first, last, it.number, it.place, it.tries)).collect()
+    };
+    let b = told(&run_a(), |longest| request_b(6, longest));
+    assert_eq!(b, [(0, 0, 11, 0, 1), (1, 64, 0, 0, 2)]);
+    let e = told(&run_b(), bytes_e);
+    assert_eq!(e, [(0, 0, 11, 0, 1), (1, 1, 11, 1, 2), (2, 2, 11, 2, 3), (3, 64, 9, 2, 3)]);
+    let lines = lines_of(&[request_a(), request_b(6, 0), request_b(6, 1), bytes_e(2), bytes_e(3)]);
+    assert_eq!(lines, ["1 0 0 1 0", "2 11 0 1 0", "3 0 0 2 1", "4 11 2 3 0", "5 9 2 3 0"]);
+}
+
+/// In case E slot 9 can go to the valve alone and slot 10 to the detector alone, slot 11 to nobody.
+#[test]
+fn worked_slots_of_e() {
+    let e = asked(&bytes_e(64));
+    let waiting = only_owners(&run_b(), &e);
+    let told = |at: &Waiting| (at.slot, [0, 1, 2].map(|id| at.shortfalls[id]), at.owners.clone());
+    let wanted = [
+        (9, [64, 128, 128], vec![2]),
+        (10, [128, 192, 0], vec![1]),
+        (11, [192, 0, 128], Vec::new()),
+    ];
+    assert_eq!(waiting.iter().map(told).collect::<Vec<_>>(), wanted);
+    let breaks = |owner: u8| broken(&e.listing, &waiting[2].shortfalls, owner);
+    assert_eq!([0, 1, 2, IDLE].map(breaks), [vec![2], vec![0, 2], vec![0], vec![0, 2]]);
+}
+
+/// Random histories of six requests for the listings of cases A, B and E; each request is looked at
+/// with the run that it meets.
+fn histories(seed: u64, mut look: impl FnMut(&Run, &[u8])) {
+    let mut random = Random::new(seed);
+    let mut run = Run::empty();
+    for step in 0..1800 {
+        run = if step % 6 == 0 { Run::empty() } else { run };
+        let slot = run.present().base + random.below(7);
+        let request = match random.below(3) {
+            0 => record(slot, 8, &[(0, 2, 1), (1, 2, 1)]),
+            1 => request_b(slot, 8),
+            _ => request_d(slot, 8),
+        };
+        look(&run, &request);
+        run = run.after(&request);
+    }
+}
+
+/// Where each slot can go to one id alone, the search ends at the first that nobody can have.
+#[test]
+fn slots_that_nobody_can_have() {
+    let mut missed = 0;
+    histories(11, |run, request| {
+        let (answer, waiting) = (answered(run, request).0, only_owners(run, &asked(request)));
+        let last = &waiting[waiting.len() - 1];
+        if answer.number == 9 && last.owners.is_empty() {
+            assert_eq!(asked(request).slot + answer.place, last.slot);
+            missed += 1;
+        }
+    });
+    assert!(missed > 20, "missed slots are among them: {missed}");
+}
+
+/// After case E's 9 a larger R or a smaller share of any id is accepted, and no later slot is.
+#[test]
+fn worked_in_place_of_e() {
+    let after_b = |shares: [(u8, u8, u8); 3]| answered(&run_b(), &record(9, 64, &shares)).0.number;
+    assert_eq!(after_b([(0, 2, 1), (1, 2, 1), (2, 1, 1)]), 9);
+    assert_eq!(after_b([(0, 2, 2), (1, 2, 1), (2, 1, 1)]), 0);
+    assert_eq!(after_b([(0, 2, 1), (1, 2, 2), (2, 1, 1)]), 0);
+    assert_eq!(after_b([(0, 2, 1), (1, 2, 1), (2, 1, 2)]), 0);
+    assert_eq!(after_b([(0, 3, 1), (1, 2, 1), (2, 1, 1)]), 0);
+    assert_eq!(after_b([(0, 2, 1), (1, 3, 1), (2, 1, 1)]), 0);
+    assert_eq!(after_b([(0, 2, 1), (1, 2, 1), (2, 2, 1)]), 0);
+    let later = |slot: u64| answered(&run_b(), &request_d(slot, 64)).0;
+    let (even, odd) = (later(10), later(11));
+    assert_eq!([(even.number, even.place), (odd.number, odd.place)], [(8, 2), (9, 0)]);
+    assert!((12..600).all(|slot| later(slot) == [even, odd][slot as usize % 2]));
+    let after_a = |slot: u64| answered(&run_a(), &request_d(slot, 64)).0;
+    assert_eq!([6, 7].map(|slot| (after_a(slot).number, after_a(slot).place)), [(9, 1), (0, 0)]);
+}
+
+/// A request with another T.
+fn with_longest(request: &[u8], longest: u8) -> Vec<u8> {
+    let mut changed = request.to_vec();
+    changed[slot_field(0).len() + HEAD] = longest;
+    changed
+}
+
+/// What a larger T changes: nothing, unless the smaller one gets 11. What is then accepted is longer
+/// than the smaller T, and a slot that is then missed is not before it.
+fn raised(run: &Run, request: &[u8], smaller: u8, larger: u8) -> (u8, u8) {
+    let (before, after) = (
+        answered(run, &with_longest(request, smaller)),
+        answered(run, &with_longest(request, larger)),
+    );
+    match (before.0.number, after.0.number) {
+        (11, 0) => assert!(after.0.timetable.length > smaller),
+        (11, 9) => assert!(after.0.place >= u64::from(smaller)),
+        (11, number) => assert_eq!(number, 11),
+        _ => assert_eq!(after, before),
+    }
+    (before.0.number, after.0.number)
+}
+
+/// What the desk reads of a larger T holds for many requests, and each way of it comes.
+#[test]
+fn raising_longest() {
+    let mut seen = [[0; 12]; 12];
+    histories(5, |run, request| {
+        for (smaller, larger) in (0..6).flat_map(|larger| (0..larger).map(move |t| (t, larger))) {
+            let (before, after) = raised(run, request, smaller, larger);
+            seen[usize::from(before)][usize::from(after)] += 1;
+        }
+    });
+    let ways = [(0, 0), (8, 8), (9, 9), (11, 0), (11, 9), (11, 11)];
+    assert!(ways.iter().all(|&(before, after)| seen[before][after] > 20), "{seen:?}");
+}
+
+/// What a 9 from before CR 1 means today is what is answered today, and a 9 of today stays.
+fn same_nine(run: &Run, longest: u8, request: &[u8]) -> u8 {
+    let answer = answered(run, request).0;
+    if [9, 11].contains(&answer.number) {
+        assert_eq!(nine_today(longest, nine_before(&answer)), (answer.number, answer.place));
+        assert_eq!(u64::from(answer.tries), answer.place + 1);
+    }
+    if answer.number == 9 {
+        assert_eq!(nine_today(longest, (answer.place, answer.tries)), (9, answer.place));
+    }
+    answer.number
+}
+
+/// Every 9 is read exactly from its place, its tries and its T, be it from before CR 1 or not.
+#[test]
+fn nines_are_read() {
+    assert_eq!(nine_today(0, (0, 1)), (11, 0));
+    assert_eq!([2, 3, 64].map(|longest| nine_today(longest, (0, 3))), [(11, 2), (9, 2), (9, 2)]);
+    assert_eq!([2, 64].map(|longest| nine_today(longest, (0, 1))), [(9, 0), (9, 0)]);
+    let mut numbers = [0; 12];
+    histories(23, |run, request| {
+        for longest in 0..=5 {
+            let number = same_nine(run, longest, &with_longest(request, longest));
+            numbers[usize::from(number)] += 1;
+        }
+    });
+    assert!(numbers[9] > 20 && numbers[11] > 20, "both are among them: {numbers:?}");
 }
 
 /// In case B no shortfall reaches 256 R, and the valve's reaches 256.
@@ -284,6 +438,6 @@ fn each_digit_is_held(text: &str, figures: &Figures, least: usize) {
 #[test]
 fn every_digit_of_the_documents() {
     let figures = Figures::of_documents();
-    each_digit_is_held(include_str!("../../docs/DICTIONARY.md"), &figures, 800);
+    each_digit_is_held(include_str!("../../docs/DICTIONARY.md"), &figures, 1200);
     each_digit_is_held(include_str!("../../docs/WORKED.md"), &figures, 150);
 }

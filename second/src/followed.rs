@@ -3,13 +3,13 @@
 use crate::cases::request_a;
 use crate::change::AREA;
 use crate::figures::{code, hexadecimal, list, list_and, thousands, Figures};
-use crate::frames::{frame, print_lines, LONGEST_FRAME};
+use crate::frames::{frame, LONGEST_FRAME};
 use crate::numbers::ACCEPTED;
 use crate::records::{longest_field, slot_field, HEAD};
 use crate::slots::room;
 use crate::timetable::{Listing, CYCLE};
 use crate::worked::{
-    answer_b, asked_a, asked_b, bytes_b, ids, offsets, run_a, run_b, share, shortfalls,
+    answer_b, asked_a, asked_b, bytes_b, ids, lines_of, offsets, run_a, run_b, share, shortfalls,
     slots_block, DETECTOR, LAST_SHOWN, PUMP_LOOP, VALVE,
 };
 
@@ -28,11 +28,7 @@ pub fn add_to(figures: &mut Figures) {
 
 /// The lines that cases A and B are answered with.
 fn lines() -> Vec<String> {
-    let input = [frame(&request_a()), frame(&bytes_b())].concat();
-    let mut output = Vec::new();
-    let printed = print_lines(&mut &input[..], &mut output);
-    let text = if printed.is_ok() { String::from_utf8_lossy(&output) } else { "".into() };
-    text.lines().map(String::from).collect()
+    lines_of(&[request_a(), bytes_b()])
 }
 
 /// One slot in each period, with a bound, of an id that is listed.

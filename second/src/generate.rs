@@ -1,10 +1,12 @@
 //! Random streams of requests that aim: the state is followed by the model, and candidates are
-//! tried against it until one brings what is aimed at, such as a long transition or a refusal 8.
+//! tried against it until one brings what is aimed at, such as a long transition or a missed slot.
 
 use crate::change::{change, listed, Outcome, AREA};
 use crate::damage::damaged;
+use crate::numbers::{ACCEPTED, LENGTHS_EXHAUSTED, SHORTFALL_TOO_LARGE, SLOT_MISSED};
+use crate::queries::standing_query;
 use crate::random::Random;
-use crate::records::{longest_field, share_field, slot_field, Request};
+use crate::records::{longest_field, read_request, share_field, slot_field, with_longest, Request};
 use crate::timetable::{
     Entry, Listing, Share, Timetable, CYCLE, IDS, LARGEST_BOUND, LARGEST_EXPONENT, LAST_SLOT,
     LONGEST_TRANSITION,
@@ -22,6 +24,7 @@ const END_ROOM: u64 = 1 << 14;
 enum Aim {
     Any,
     Length(u8, u8),
+    Missed(u64, u64),
     Number(u8),
 }
 
@@ -33,6 +36,7 @@ pub struct Generator {
     last_part: u64,
     jump_part: u64,
     pending: Option<Aim>,
+    wanting: Option<Vec<u8>>,
 }
 
 impl Generator {
@@ -50,6 +54,7 @@ impl Generator {
             last_part: count / 50,
             jump_part: (count / 64).max(LEAST_JUMP_PART),
             pending: None,
+            wanting: None,
         }
     }
 
@@ -58,27 +63,47 @@ impl Generator {
         self.timetable
     }
 
-    /// One request, damaged or with some aim; an aim that waits for its block mostly comes first.
+    /// One request, damaged or with some aim; the larger T that a desk asks comes first, and then
+    /// mostly an aim that waits for its block.
     fn make(&mut self) -> Vec<u8> {
+        if let Some(raised) = self.raised() {
+            return raised;
+        }
         if let Some(aim) = self.pending.filter(|_| self.random.chance(3, 4)) {
             return self.aimed(aim);
         }
         match self.random.below(100) {
-            0..=27 => {
+            0..=26 => {
                 let request = self.any_change();
                 let fields = fields(&mut self.random, &request);
                 damaged(&mut self.random, fields)
             }
-            28..=31 => self.too_early(),
-            32..=35 => self.overfull(),
-            36..=45 => self.rebuilt(),
-            46..=54 => self.aimed(Aim::Any),
-            55..=62 => self.aimed(Aim::Length(1, 1)),
-            63..=75 => self.aimed(Aim::Length(2, 8)),
-            76..=86 => self.aimed(Aim::Length(9, LONGEST_TRANSITION as u8)),
-            87..=94 => self.aimed(Aim::Number(8)),
-            _ => self.aimed(Aim::Number(9)),
+            27..=30 => self.too_early(),
+            31..=34 => self.overfull(),
+            35..=41 => self.rebuilt(),
+            42..=46 => self.aimed(Aim::Any),
+            47..=54 => self.aimed(Aim::Length(1, 1)),
+            55..=67 => self.aimed(Aim::Length(2, 8)),
+            68..=80 => self.aimed(Aim::Length(9, LONGEST_TRANSITION as u8)),
+            81..=88 => self.aimed(Aim::Number(SHORTFALL_TOO_LARGE)),
+            89..=90 => self.aimed(Aim::Number(LENGTHS_EXHAUSTED)),
+            91..=94 => self.aimed(Aim::Missed(0, 0)),
+            _ => self.aimed(Aim::Missed(1, LONGEST_TRANSITION as u64)),
         }
+    }
+
+    /// What the desk asks after a refusal for want of a schedule: the same with a larger T.
+    fn raised(&mut self) -> Option<Vec<u8>> {
+        let record = self.wanting.take()?;
+        let most = LONGEST_TRANSITION as u64;
+        let before = u64::from(read_request(&record).ok()?.longest);
+        let longest = match self.random.below(4) {
+            0 => before + 1,
+            1 => self.random.between(before + 1, most),
+            2 => 2 * before + 1,
+            _ => most,
+        };
+        (before < most).then(|| with_longest(&record, longest.min(most) as u8))
     }
 
     /// The first of some candidates that meets the aim; if none does, a block comes before it.
@@ -98,21 +123,30 @@ impl Generator {
     /// A missed aim waits for the block that is asked for now, unless it has waited already.
     fn missed_aim(&mut self, aim: Aim) -> Vec<u8> {
         let again = self.pending.take().is_some();
-        let listing = if again { self.full_core() } else { self.block() };
+        let listing = match aim {
+            _ if again => self.full_core(),
+            Aim::Number(LENGTHS_EXHAUSTED) => self.pair(),
+            _ => self.block(),
+        };
         self.pending = Some(aim).filter(|_| !again);
         let request = self.request(listing);
         self.record(&request)
     }
 
-    /// Now and then T is set to the very length needed, or to one less.
+    /// Now and then T is set to the least that brings the outcome, to one less, or to any less.
     fn tighten(&mut self, request: &mut Request, outcome: &Outcome) {
-        let length = outcome.timetable.length;
-        if outcome.number == 0 && length > 0 {
-            match self.random.below(12) {
-                0..=3 => request.longest = length,
-                4 => request.longest = length - 1,
-                _ => (),
-            }
+        let least = match outcome.number {
+            ACCEPTED => outcome.timetable.length,
+            SLOT_MISSED => outcome.place as u8 + 1,
+            LENGTHS_EXHAUSTED => outcome.place as u8,
+            _ => 0,
+        };
+        match self.random.below(12) {
+            _ if least == 0 => (),
+            0..=2 => request.longest = least,
+            3..=4 => request.longest = least - 1,
+            5..=6 => request.longest = self.random.below(u64::from(least)) as u8,
+            _ => (),
         }
     }
 
@@ -130,7 +164,9 @@ impl Generator {
     fn candidate(&mut self, aim: Aim) -> Request {
         match aim {
             Aim::Any => self.any_change(),
-            Aim::Number(8) => self.lowered_bounds(),
+            Aim::Number(SHORTFALL_TOO_LARGE) => self.lowered_bounds(),
+            Aim::Number(_) => self.filled(),
+            Aim::Missed(..) if self.random.chance(1, 2) => self.pressed(),
             _ if self.random.chance(1, 3) => self.any_change(),
             _ => self.newcomers(),
         }
@@ -191,6 +227,15 @@ impl Generator {
         request
     }
 
+    /// The present listing on a full core, about half a cycle after the base, with the largest T.
+    fn filled(&mut self) -> Request {
+        let mut listing = self.timetable.listing();
+        self.fill(&mut listing);
+        let later = self.random.between(CYCLE as u64 / 2, CYCLE as u64 - LONGEST_TRANSITION as u64);
+        let slot = self.timetable.base.saturating_add(later).min(LAST_SLOT);
+        Request { slot, longest: LONGEST_TRANSITION as u8, listing }
+    }
+
     /// A slot at most a few slots before some listed partition's own, where its shortfall is high.
     fn slot_before_slices(&mut self) -> u64 {
         let listed: Vec<Entry> = self.timetable.entries.into_iter().filter(Entry::listed).collect();
@@ -210,6 +255,20 @@ impl Generator {
             }
         }
         self.request(listing)
+    }
+
+    /// The least bounds that the shortfalls allow, and shorter periods, so that several are urgent.
+    fn pressed(&mut self) -> Request {
+        let listing = self.timetable.listing();
+        let mut request = self.request(listing);
+        for (id, share) in (0..).zip(&mut request.listing) {
+            let Some(share) = share else { continue };
+            let (_, shortfall, _) = standing_query(&self.timetable, id, request.slot);
+            share.bound = ((shortfall / CYCLE as u16) as u8 + 1).min(LARGEST_BOUND);
+            share.period = (share.period >> self.random.below(4)).max(2);
+        }
+        self.fit(&mut request.listing);
+        request
     }
 
     /// A listing made anew: a block, all 32 ids, nothing, or any shares up to a full core.
@@ -236,6 +295,17 @@ impl Generator {
             if !kept || !self.timetable.entries[id].listed() {
                 listing[id] = Some(Share { period: 1 << k, bound: 1 });
             }
+        }
+        listing
+    }
+
+    /// Two ids with the longest period and bound 1, which on a full core want one slot.
+    fn pair(&mut self) -> Listing {
+        let mut listing = [None; IDS];
+        let first = self.random.below(IDS as u64) as usize;
+        let other = (first + self.random.between(1, IDS as u64 - 1) as usize) % IDS;
+        for id in [first, other] {
+            listing[id] = Some(Share { period: CYCLE as u16, bound: 1 });
         }
         listing
     }
@@ -393,16 +463,26 @@ impl Iterator for Generator {
         }
         let request = self.make();
         self.left -= 1;
-        self.timetable = change(&self.timetable, &request, &mut [0; AREA]).timetable;
+        let outcome = change(&self.timetable, &request, &mut [0; AREA]);
+        self.timetable = outcome.timetable;
+        let asked_again = match outcome.number {
+            LENGTHS_EXHAUSTED => self.random.chance(3, 4),
+            SLOT_MISSED => self.random.chance(1, 3),
+            _ => false,
+        };
+        self.wanting = asked_again.then(|| request.clone());
         Some(request)
     }
 }
 
-/// An aim is met by its number, or by an acceptance with a length in its range.
+/// An aim is met by its number, or by an acceptance with a length or a missed slot in its range.
 fn meets(aim: Aim, outcome: &Outcome) -> bool {
     match aim {
         Aim::Any => true,
         Aim::Number(number) => outcome.number == number,
+        Aim::Missed(first, last) => {
+            outcome.number == SLOT_MISSED && (first..=last).contains(&outcome.place)
+        }
         Aim::Length(first, last) => {
             outcome.number == 0 && (first..=last).contains(&outcome.timetable.length)
         }

@@ -32,6 +32,8 @@ mod figures_tests;
 #[cfg(test)]
 mod probe_tests;
 #[cfg(test)]
+mod raising;
+#[cfg(test)]
 mod tests;
 #[cfg(test)]
 mod windows;

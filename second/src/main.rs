@@ -110,7 +110,7 @@ fn write_frames(contents: impl IntoIterator<Item = Vec<u8>>) -> io::Result<()> {
 /// How often each answer comes among random requests.
 fn counts((seed, count): (u64, u64)) -> io::Result<()> {
     let counts = RequestCounts::of(Generator::new(seed, count));
-    write!(io::stdout(), "{}", counts.table())
+    write!(io::stdout(), "{}", counts.tables())
 }
 
 /// How often each answer comes among the cases and random probes.

@@ -1,4 +1,4 @@
-//! What each number says, in the order of the stages.
+//! What each number says. The stages come in the numbers' order, with 11 beside 9.
 
 /// The request was accepted or the query answered.
 pub const ACCEPTED: u8 = 0;
@@ -18,7 +18,9 @@ pub const TOO_EARLY: u8 = 6;
 pub const OVERFULL: u8 = 7;
 /// A shortfall at the request slot is not below 256 times the new R.
 pub const SHORTFALL_TOO_LARGE: u8 = 8;
-/// No length up to T gives a schedule.
-pub const NO_SCHEDULE: u8 = 9;
+/// A transition slot is missed, and no length up to it gives a schedule.
+pub const SLOT_MISSED: u8 = 9;
 /// A query's id is not listed.
 pub const NOT_LISTED: u8 = 10;
+/// No length up to T gives a schedule, and all were searched.
+pub const LENGTHS_EXHAUSTED: u8 = 11;

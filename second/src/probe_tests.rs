@@ -286,10 +286,11 @@ fn the_probes_reach_every_answer() {
     let reached = |kind: usize, numbers: &[usize], least| {
         numbers.iter().all(|&number| counts.numbers[kind][number] >= least)
     };
-    assert!(reached(0, &[0, 1, 2, 3, 4, 5, 6, 7, 8, 9], 40), "{:?}", counts.numbers[0]);
+    assert!(reached(0, &[0, 1, 2, 3, 4, 5, 6, 7, 8, 9, 11], 40), "{:?}", counts.numbers[0]);
     assert!(reached(1, &[0, 1, 4, 6], 20), "{:?}", counts.numbers[1]);
     assert!(reached(2, &[0, 1, 4, 6, 10], 20), "{:?}", counts.numbers[2]);
     assert!(reached(3, &[0, 1], 1) && counts.bad > 20, "{:?}", counts.numbers[3]);
+    assert!(counts.wants.iter().all(|&count| count >= 10), "{:?}", counts.wants);
     assert!(counts.lengths.iter().all(|&count| count > 30), "{:?}", counts.lengths);
     assert!(counts.areas.iter().all(|&count| count > 60), "{:?}", counts.areas);
     assert!(counts.origins.iter().skip(6).all(|count| count.unsound > 20));

@@ -126,3 +126,13 @@ pub fn slot_field(slot: u64) -> Vec<u8> {
 pub fn longest_field(longest: u8) -> Vec<u8> {
     vec![TAG_LONGEST, 0, 1, longest]
 }
+
+/// A request that is read, with another T: the last byte of its second field.
+pub fn with_longest(record: &[u8], longest: u8) -> Vec<u8> {
+    let at = slot_field(0).len() + HEAD;
+    let mut other = record.to_vec();
+    if let Some(byte) = other.get_mut(at) {
+        *byte = longest;
+    }
+    other
+}

@@ -4,13 +4,14 @@
 
 use crate::cases::{self, record, request_a, request_d};
 use crate::change::{change, most_urgent, placement, Outcome, AREA};
+use crate::counts::RequestCounts;
 use crate::frames::{frame, print_lines, LONGEST_FRAME};
 use crate::generate::Generator;
 use crate::probe::probe_line;
 use crate::queries::{owner_query, standing_query};
 use crate::records::{longest_field, share_field, slot_field};
 use crate::slots::{last_offset, next_shortfall, room, Shortfalls, Walk};
-use crate::timetable::{Entry, Listing, Share, Timetable, CYCLE, IDLE, IDS, LAST_SLOT};
+use crate::timetable::{Entry, Listing, Share, Timetable, IDLE, IDS, LAST_SLOT};
 
 /// A byte that no answer leaves in a whole area, to see which bytes were written.
 const BEFORE: u8 = 0xa5;
@@ -107,10 +108,10 @@ fn case_b() {
     assert_eq!(accepted(&a, &request_b(64), 2), b);
 }
 
-/// C: B with T 0 is refused 9 after one try.
+/// C: B with T 0 is refused 11 after one try.
 #[test]
 fn case_c() {
-    refused(&after_a(), &request_b(0), 9, 0, 1);
+    refused(&after_a(), &request_b(0), 11, 0, 1);
 }
 
 /// D: a shortfall of 256 is not below 256 times a new R of 1.
@@ -121,11 +122,25 @@ fn case_d() {
     refused(&b, &request_d(8, 64), 8, 2, 0);
 }
 
-/// E: refused 9 for every T, with at most three tries.
+/// E: the rooms are 2, 1 and 0; id 2 gets slot 0 and id 1 slot 1, then ids 0 and 2 have room 0. So
+/// slot 2 is missed where it is sought, and up to T 2 all lengths are searched in vain.
 #[test]
 fn case_e() {
+    let b = after_b();
+    assert_eq!(shortfalls(&b, 9), [64, 128, 128]);
+    for longest in 0..=2 {
+        refused(&b, &request_d(9, longest), 11, u64::from(longest), u16::from(longest) + 1);
+    }
+    for longest in 3..=64 {
+        refused(&b, &request_d(9, longest), 9, 2, 3);
+    }
+}
+
+/// A request is refused 9 with a slot as its place at each T above it, and else 11 with place T.
+fn missed_at(timetable: &Timetable, request: impl Fn(u8) -> Vec<u8>, slot: u8) {
     for longest in 0..=64 {
-        refused(&after_b(), &request_d(9, longest), 9, 0, u16::from(longest).min(2) + 1);
+        let (number, place) = if longest > slot { (9, slot) } else { (11, longest) };
+        refused(timetable, &request(longest), number, u64::from(place), u16::from(place) + 1);
     }
 }
 
@@ -137,7 +152,7 @@ fn case_f() {
     refused(&b, &request_d(6, 64), 6, 0, 0);
     accepted(&b, &record(7, 64, &[]), 1);
     // At the base ids 0 and 2, with shortfalls 192 and 128 and R 1, have room 0 both.
-    refused(&b, &request_d(7, 64), 9, 0, 1);
+    missed_at(&b, |longest| request_d(7, longest), 0);
 }
 
 /// G: the shortfall of figure 7 in the 2021 paper (docs/RULES.md 14) is 448 at slot 8.
@@ -331,12 +346,14 @@ fn the_lowest_stage_wins() {
     refused(&b, &record(6, 0, &[(5, 0, 1), (5, 0, 1), (40, 9, 1)]), 5, 21, 0);
     refused(&b, &[record(LAST_SLOT + 1, 65, &[(32, 0, 1)]), vec![9]].concat(), 4, 0, 0);
     refused(&b, &[record(6, 65, &[(32, 0, 1)]), vec![9]].concat(), 4, 11, 0);
-    // Every field comes before 6, 6 before 7, 7 before 8, 8 before 9.
+    // Every field comes before 6, 6 before 7, 7 before 8, 8 before 9 and 11.
     refused(&b, &record(6, 0, &[(0, 0, 1), (0, 0, 1)]), 5, 21, 0);
     refused(&b, &record(6, 0, &[(0, 0, 1), (2, 1, 1)]), 6, 0, 0);
     refused(&b, &record(8, 0, &[(0, 0, 1), (2, 1, 1)]), 7, 2, 0);
     refused(&b, &request_d(8, 0), 8, 2, 0);
-    refused(&b, &request_d(9, 0), 9, 0, 1);
+    refused(&b, &request_d(8, 64), 8, 2, 0);
+    refused(&b, &request_d(9, 0), 11, 0, 1);
+    refused(&b, &request_d(9, 64), 9, 2, 3);
 }
 
 /// The place of 7 is the id at which the running sum, ids rising, first passes 256.
@@ -393,7 +410,10 @@ fn a_transition_of_three_slots() {
     let before = accepted(&Timetable::empty(), &record(0, 0, &block), 1);
     assert_eq!(offsets(&before, [0, 1, 2, 3]), [7, 6, 5, 4]);
     let with_newcomer = [&block[..], &[(4, 1, 4)]].concat();
-    refused(&before, &record(4, 2, &with_newcomer), 9, 0, 3);
+    for longest in 0..3 {
+        let request = record(4, longest, &with_newcomer);
+        refused(&before, &request, 11, u64::from(longest), u16::from(longest) + 1);
+    }
     let after = accepted(&before, &record(4, 3, &with_newcomer), 4);
     assert_eq!((after.request_slot, after.base), (4, 7));
     assert_eq!(after.transition(), [0, 1, 2]);
@@ -406,11 +426,13 @@ fn a_transition_of_three_slots() {
 }
 
 /// Id 0 takes every second slot and others fill the core but for two slots, 128 apart. Ids 11 and
-/// 12 need theirs within 64 slots and within so many; below 128 there is only one for both.
-fn two_in_want(within: u16) -> (Timetable, Vec<(u8, u8, u8)>) {
+/// 12 have so much room; below 128 there is only one slot for both.
+fn two_in_want(rooms: [u16; 2]) -> (Timetable, Vec<(u8, u8, u8)>) {
     let mut timetable = Timetable::empty();
-    timetable.entries[11] = Entry { period: 256, offset: 0, bound: 1, shortfall: 255 - 63 };
-    timetable.entries[12] = Entry { period: 256, offset: 1, bound: 1, shortfall: 255 - within };
+    for (offset, room) in (0..).zip(rooms) {
+        let entry = Entry { period: 256, offset, bound: 2, shortfall: 255 - room };
+        timetable.entries[11 + usize::from(offset)] = entry;
+    }
     let mut shares = vec![(0, 1, 1)];
     shares.extend((1..8).map(|id| (id, 4, 8)));
     shares.extend([(8, 5, 8), (9, 6, 8), (10, 7, 8), (11, 8, 1), (12, 8, 1)]);
@@ -420,8 +442,8 @@ fn two_in_want(within: u16) -> (Timetable, Vec<(u8, u8, u8)>) {
 /// The longest transition: id 0, with room 1, is served until id 11 has room 0, in the 64th slot.
 #[test]
 fn the_longest_transition() {
-    let (timetable, shares) = two_in_want(127);
-    refused(&timetable, &record(0, 63, &shares), 9, 0, 64);
+    let (timetable, shares) = two_in_want([63, 127]);
+    refused(&timetable, &record(0, 63, &shares), 11, 63, 64);
     let after = accepted(&timetable, &record(0, 64, &shares), 65);
     assert_eq!((after.request_slot, after.length, after.base), (0, 64, 64));
     assert_eq!(after.transition()[..63], [0; 63]);
@@ -431,8 +453,28 @@ fn the_longest_transition() {
     let left = [0, 1, 7, 8, 9, 10, 11, 12].map(|id| after.entries[id].shortfall);
     assert_eq!(left, [128, 1024, 1024, 512, 256, 128, 0, 192]);
     // One slot more, and id 12 has slot 128 at once.
-    let (timetable, shares) = two_in_want(128);
+    let (timetable, shares) = two_in_want([63, 128]);
     assert_eq!(accepted(&timetable, &record(0, 64, &shares), 1).entries[12].offset, 128);
+}
+
+/// Where both have the same room, id 0 is served before them until their room is 0: that slot is
+/// missed where it is sought.
+#[test]
+fn a_slot_missed_at_each_place() {
+    for slot in 0..64 {
+        let (timetable, shares) = two_in_want([slot; 2]);
+        missed_at(&timetable, |longest| record(0, longest, &shares), slot as u8);
+    }
+}
+
+/// With room 64 the wait is longer than any T: in vain, whether or not slot 64 would be missed.
+#[test]
+fn the_largest_t_in_vain() {
+    for room in [64, 65, 127] {
+        let (timetable, shares) = two_in_want([64, room]);
+        refused(&timetable, &record(0, 64, &shares), 11, 64, 65);
+        refused(&timetable, &record(0, 63, &shares), 11, 63, 64);
+    }
 }
 
 /// A transition slot takes 256 of a larger shortfall, and the rest stays.
@@ -753,8 +795,8 @@ fn lines_of_a_and_b() {
 fn lines_of_the_cases() {
     let input: Vec<u8> = cases::requests().iter().flat_map(|request| frame(request)).collect();
     let lines = "1 3 0 0 0\n2 3 11 0 0\n3 4 0 0 0\n4 4 11 0 0\n5 0 0 1 0\n6 0 0 1 0\n7 7 9 0 0\n\
-                 8 0 0 1 0\n9 0 0 1 0\n10 0 0 1 0\n11 9 0 1 0\n12 0 0 2 1\n13 8 2 0 0\n\
-                 14 9 0 1 0\n15 9 0 2 0\n16 9 0 3 0\n17 9 0 3 0\n18 9 0 3 0\n19 6 0 0 0\n\
+                 8 0 0 1 0\n9 0 0 1 0\n10 0 0 1 0\n11 11 0 1 0\n12 0 0 2 1\n13 8 2 0 0\n\
+                 14 11 0 1 0\n15 11 1 2 0\n16 11 2 3 0\n17 9 2 3 0\n18 9 2 3 0\n19 6 0 0 0\n\
                  20 0 0 1 0\n21 0 0 1 0\n";
     assert_eq!(lines_of(&input), lines);
 }
@@ -780,9 +822,9 @@ fn change_lines() -> Vec<String> {
     lines.push("change 0 0 1 12 006a0100010100a4 100001001100001200020400+219".to_string());
     let answer_a = "1000010011000012000200031200020102";
     lines.push(format!("change 0 0 1 17 {IMAGE_A} {answer_a}+214"));
-    lines.push(format!("change 9 0 1 0 {IMAGE_A} +231"));
+    lines.push(format!("change 11 0 1 0 {IMAGE_A} +231"));
     lines.extend([(); 2].map(|_| format!("change 0 0 2 23 {IMAGE_B} {ANSWER_B}+208")));
-    let refusals = ["8 2 0", "9 0 1", "9 0 2", "9 0 3", "9 0 3", "9 0 3", "6 0 0"];
+    let refusals = ["8 2 0", "11 0 1", "11 1 2", "11 2 3", "9 2 3", "9 2 3", "6 0 0"];
     lines.extend(refusals.map(|refusal| format!("change {refusal} 0 {IMAGE_B} +231")));
     lines
 }
@@ -980,25 +1022,27 @@ fn hostile(random: &mut crate::random::Random, timetable: &mut Timetable) {
     }
 }
 
-/// A stream brings each number that frames can bring, and transitions of every class of length.
+/// A stream brings each number that frames can bring, refusals for want of a schedule of every
+/// class, what a desk asks after them, and transitions of every class of length.
 #[test]
 fn the_stream_reaches_every_answer() {
-    let mut timetable = Timetable::empty();
-    let mut numbers = [0; 16];
-    let mut lengths = [0; CYCLE];
-    for request in Generator::new(1, 4000) {
-        let outcome = change(&timetable, &request, &mut [0; AREA]);
-        timetable = outcome.timetable;
-        assert!(timetable.sound());
-        numbers[usize::from(outcome.number)] += 1;
-        if outcome.number == 0 {
-            lengths[usize::from(timetable.length)] += 1;
-        }
-    }
+    let counts = RequestCounts::of(Generator::new(1, 4000));
+    let numbers = counts.numbers;
     assert_eq!(numbers[1] + numbers[2] + numbers[10], 0);
-    assert!(numbers[3..10].iter().all(|&count| count >= 40), "{numbers:?}");
-    let to_8: i32 = lengths[2..=8].iter().sum();
-    let over_8: i32 = lengths[9..].iter().sum();
-    assert!(lengths[0] > 400 && lengths[1] >= 40, "{lengths:?}");
-    assert!(to_8 >= 40 && over_8 >= 20, "{lengths:?}");
+    assert!(numbers[3..10].iter().all(|&count| count >= 80), "{numbers:?}");
+    assert!(numbers[11] >= 160, "{numbers:?}");
+    assert!(counts.wants.iter().all(|&count| count >= 20), "{:?}", counts.wants);
+    assert!(counts.again.iter().all(|&count| count >= 10), "{:?}", counts.again);
+    assert!(counts.lengths[0] > 400, "{:?}", counts.lengths);
+    assert!(counts.lengths.iter().all(|&count| count >= 80), "{:?}", counts.lengths);
+}
+
+/// Every timetable along a stream is sound.
+#[test]
+fn timetables_along_a_stream_are_sound() {
+    let mut timetable = Timetable::empty();
+    for request in Generator::new(1, 4000) {
+        timetable = change(&timetable, &request, &mut [0; AREA]).timetable;
+        assert!(timetable.sound() && sound_in_numbers(&timetable));
+    }
 }

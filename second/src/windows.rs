@@ -1,6 +1,6 @@
 //! Demand 3 (docs/RULES.md 1.6) by brute force: runs are recorded slot by slot and all their
-//! windows are looked at, and each length tried is held against a search through all choices of
-//! offsets.
+//! windows are looked at, each length tried is held against a search through all choices of
+//! offsets, and each refusal for want of a schedule against these and whoever may get a slot.
 
 use crate::change::{change, listed, Outcome, AREA};
 use crate::generate::Generator;
@@ -178,39 +178,64 @@ fn all_bounds_kept(listing: &Listing, shortfalls: &Shortfalls) -> bool {
     listed(listing).all(|(id, share)| shortfalls[id] < 256 * i64::from(share.bound))
 }
 
-/// The partition with the least room, ties to the lower id; none if the slot is missed.
-fn urgent_or_missed(listing: &Listing, shortfalls: &Shortfalls) -> Option<usize> {
+/// Whoever gets the next slot, a listed partition or nobody, some bound is broken.
+fn anyone_breaks(listing: &Listing, shortfalls: &Shortfalls) -> bool {
+    let mut somebody = listed(listing).map(|(id, _)| Some(id)).chain([None]);
+    !somebody.any(|owner| all_bounds_kept(listing, &after_slot(listing, shortfalls, owner)))
+}
+
+/// The partition with the least room, ties to the lower id; none if several have room 0.
+fn urgent(listing: &Listing, shortfalls: &Shortfalls) -> Option<usize> {
     let room = |id: usize, share: Share| {
         (256 * i64::from(share.bound) - 1 - shortfalls[id]) / (256 / i64::from(share.period))
     };
     let rooms: Vec<(i64, usize)> =
         listed(listing).map(|(id, share)| (room(id, share), id)).collect();
     let missed = rooms.iter().filter(|(room, _)| *room == 0).count() > 1;
-    let somebody = listed(listing).map(|(id, _)| Some(id)).chain([None]);
-    let borne =
-        somebody.filter(|&owner| all_bounds_kept(listing, &after_slot(listing, shortfalls, owner)));
-    assert_eq!(
-        missed,
-        borne.count() == 0,
-        "a slot is missed if whoever gets it some bound is broken"
-    );
     rooms.iter().min().map(|(_, id)| *id).filter(|_| !missed)
 }
 
-/// What was seen while requests were checked.
+/// A length that rule 3 reaches: the shortfalls that it leads to, whether there is no cyclic
+/// placement at all from there, whether its slot breaks a bound, and whom rule 3 gives that slot.
+struct Reached {
+    shortfalls: Shortfalls,
+    passed_over: bool,
+    breaks: bool,
+    owner: Option<usize>,
+}
+
+/// The lengths up to T that rule 3 reaches, up to the first that has a placement.
+fn reached(request: &Request, at_request: Shortfalls) -> Vec<Reached> {
+    let mut shortfalls = at_request;
+    let mut lengths = Vec::new();
+    for _ in 0..=request.longest {
+        let passed_over = !placement_exists(&request.listing, &shortfalls);
+        let breaks = anyone_breaks(&request.listing, &shortfalls);
+        let owner = urgent(&request.listing, &shortfalls);
+        lengths.push(Reached { shortfalls, passed_over, breaks, owner });
+        if !passed_over || owner.is_none() {
+            break;
+        }
+        shortfalls = after_slot(&request.listing, &shortfalls, owner);
+    }
+    lengths
+}
+
+/// What was seen while requests were checked: 9 at place 0 and above; 11 where slot T would not be
+/// missed, and where it would.
 #[derive(Debug)]
 struct Seen {
     lengths: [u32; 65],
-    refused_8: u32,
-    refused_9: u32,
-    missed: u32,
+    behind: u32,
+    missed: [u32; 2],
+    exhausted: [u32; 2],
     windows: u64,
 }
 
 impl Seen {
     /// Nothing was seen so far.
     fn nothing() -> Seen {
-        Seen { lengths: [0; 65], refused_8: 0, refused_9: 0, missed: 0, windows: 0 }
+        Seen { lengths: [0; 65], behind: 0, missed: [0; 2], exhausted: [0; 2], windows: 0 }
     }
 }
 
@@ -229,36 +254,52 @@ fn check_outcome(run: &Run, request: &Request, outcome: &Outcome, seen: &mut See
         .find(|(id, share)| shortfalls[*id] >= 256 * i64::from(share.bound));
     if let Some((id, _)) = over {
         assert_eq!((outcome.number, outcome.place, outcome.tries), (8, id as u64, 0));
-        seen.refused_8 += 1;
+        seen.behind += 1;
         return;
     }
     check_lengths(request, shortfalls, outcome, seen);
 }
 
-/// Each length is passed over exactly if no choice of offsets serves; tries counts the lengths.
+/// The sentences of demand 3 about the length, the number and the place.
 fn check_lengths(request: &Request, at_request: Shortfalls, outcome: &Outcome, seen: &mut Seen) {
-    let mut shortfalls = at_request;
-    for length in 0..=request.longest {
-        if placement_exists(&request.listing, &shortfalls) {
-            check_accepted(request, &shortfalls, length, outcome);
-            seen.lengths[usize::from(length)] += 1;
-            return;
-        }
-        let owner = urgent_or_missed(&request.listing, &shortfalls);
-        if length == request.longest || owner.is_none() {
-            assert_eq!(
-                (outcome.number, outcome.place, outcome.tries),
-                (9, 0, u16::from(length) + 1)
-            );
-            seen.refused_9 += 1;
-            seen.missed += u32::from(length < request.longest);
-            return;
-        }
-        if outcome.number == 0 {
-            assert_eq!(Some(usize::from(outcome.timetable.owners[usize::from(length)])), owner);
-        }
-        shortfalls = after_slot(&request.listing, &shortfalls, owner);
+    let lengths = reached(request, at_request);
+    for length in lengths.iter().filter(|length| length.passed_over) {
+        assert_eq!(length.breaks, length.owner.is_none(), "a slot is missed if anyone breaks");
     }
+    check_wanting(request.longest, &lengths, outcome);
+    let last = lengths.len() - 1;
+    match outcome.number {
+        0 => {
+            let owners: Vec<_> = lengths.iter().take(last).map(|length| length.owner).collect();
+            let given = outcome.timetable.transition().iter().map(|&id| Some(usize::from(id)));
+            assert_eq!(given.collect::<Vec<_>>(), owners);
+            check_accepted(request, &lengths[last].shortfalls, last as u8, outcome);
+            seen.lengths[last] += 1;
+        }
+        9 => seen.missed[usize::from(last > 0)] += 1,
+        number => {
+            assert_eq!(number, 11);
+            seen.exhausted[usize::from(lengths[last].breaks)] += 1;
+        }
+    }
+}
+
+/// 11 and its place, 9 and its place, and either of them: each exactly if demand 3 says so.
+fn check_wanting(longest: u8, lengths: &[Reached], outcome: &Outcome) {
+    let passed_over =
+        |length: u8| lengths.get(usize::from(length)).is_some_and(|length| length.passed_over);
+    let breaks = |slot: u8| lengths.get(usize::from(slot)).is_some_and(|length| length.breaks);
+    let given = (outcome.number, outcome.place, outcome.tries);
+    let told = |number: u8, place: u8| (number, u64::from(place), u16::from(place) + 1);
+    let exhausted = (0..=longest).all(passed_over);
+    assert_eq!(given == told(11, longest), exhausted);
+    for slot in 0..=64 {
+        let missed = slot < longest && (0..=slot).all(passed_over) && breaks(slot);
+        assert_eq!(given == told(9, slot), missed);
+    }
+    let unreachable = |length: u8| (0..length).any(breaks);
+    let in_vain = (0..=longest).all(|length| passed_over(length) || unreachable(length));
+    assert_eq!(outcome.number == 9 || outcome.number == 11, in_vain);
 }
 
 /// An acceptance has the length, the shortfalls and offsets that bear from the base on.
@@ -376,14 +417,19 @@ fn small_candidate(random: &mut Random, run: &Run) -> Request {
     Request { slot, longest, listing }
 }
 
-/// A request for a run: any, or the one of many with the most tries, a refusal 8 counted as two.
+/// A request for a run: any, or the one of many with the most tries. A refusal 8 is counted as two,
+/// and a slot missed at once as four.
 fn small_request(random: &mut Random, run: &Run) -> Request {
     let mut best = small_candidate(random, run);
     let mut most = 0;
     for _ in 0..random.pick(&[0, 30, 30, 30]).unwrap_or(0) {
         let request = small_candidate(random, run);
         let outcome = change(&run.timetable, &record_of(&request), &mut [0; AREA]);
-        let tries = if outcome.number == 8 { 2 } else { outcome.tries };
+        let tries = match (outcome.number, outcome.place) {
+            (8, _) => 2,
+            (9, 0) => 4,
+            _ => outcome.tries,
+        };
         if tries > most {
             (best, most) = (request, tries);
         }
@@ -416,7 +462,8 @@ fn histories_on_small_cores() {
     let longer: u32 = seen.lengths[2..].iter().sum();
     println!("{seen:?}");
     assert!(seen.lengths[0] > 1000 && seen.lengths[1] > 300 && longer > 200, "{seen:?}");
-    assert!(seen.refused_8 > 100 && seen.refused_9 > 300 && seen.missed > 50, "{seen:?}");
+    assert!(seen.behind > 100 && seen.missed.iter().all(|&times| times > 50), "{seen:?}");
+    assert!(seen.exhausted.iter().all(|&times| times > 50), "{seen:?}");
 }
 
 /// The generator's own streams, with their long transitions, keep all windows of their first slots.

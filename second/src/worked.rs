@@ -3,9 +3,12 @@
 use crate::cases::{record, request_a, request_b, request_d};
 use crate::change::{change, Outcome, AREA};
 use crate::figures::aligned;
+use crate::frames::{frame, print_lines};
+use crate::numbers::{LENGTHS_EXHAUSTED, SLOT_MISSED};
 use crate::records::{read_request, Request};
 use crate::run::Run;
-use crate::timetable::{Listing, Share, Timetable, IDLE, IDS};
+use crate::slots::{pass_slot, Shortfalls};
+use crate::timetable::{Listing, Share, Timetable, IDLE, IDS, LONGEST_TRANSITION};
 
 /// The ids of the cases by what they are in the lab.
 pub const PUMP_LOOP: u8 = 0;
@@ -58,9 +61,88 @@ pub fn answer_b() -> (Outcome, Vec<u8>) {
     answered(&run_a(), &bytes_b())
 }
 
+/// Case E's request with some T.
+pub fn bytes_e(longest: u8) -> Vec<u8> {
+    request_d(9, longest)
+}
+
 /// The answer to case E with some T.
 pub fn answer_e(longest: u8) -> Outcome {
-    answered(&run_b(), &request_d(9, longest)).0
+    answered(&run_b(), &bytes_e(longest)).0
+}
+
+/// The answers to a request for every T, with the first and the last T of each that are alike.
+pub fn by_longest(run: &Run, request: impl Fn(u8) -> Vec<u8>) -> Vec<(u8, u8, Outcome)> {
+    let mut rows: Vec<(u8, u8, Outcome)> = Vec::new();
+    for longest in 0..=LONGEST_TRANSITION as u8 {
+        let answer = answered(run, &request(longest)).0;
+        match rows.last_mut() {
+            Some((_, last, before)) if *before == answer => *last = longest,
+            _ => rows.push((longest, longest, answer)),
+        }
+    }
+    rows
+}
+
+/// The place and the tries of a 9 from before CR 1, for what is refused 9 or 11 today.
+pub fn nine_before(answer: &Outcome) -> (u64, u16) {
+    (0, answer.tries)
+}
+
+/// The number and the place that a 9 with some place and tries has today, by the T of its request.
+pub fn nine_today(longest: u8, (place, tries): (u64, u16)) -> (u8, u64) {
+    let length = u64::from(tries.saturating_sub(1));
+    match place {
+        0 if length == u64::from(longest) => (LENGTHS_EXHAUSTED, length),
+        0 => (SLOT_MISSED, length),
+        missed => (SLOT_MISSED, missed),
+    }
+}
+
+/// The shortfalls behind a slot that goes to an id or, as 255, to nobody.
+pub fn behind(listing: &Listing, shortfalls: &Shortfalls, owner: u8) -> Shortfalls {
+    let mut behind = *shortfalls;
+    pass_slot(listing, &mut behind, owner);
+    behind
+}
+
+/// The ids whose bounds are broken behind a slot that goes to an id or to nobody.
+pub fn broken(listing: &Listing, shortfalls: &Shortfalls, owner: u8) -> Vec<u8> {
+    let behind = behind(listing, shortfalls, owner);
+    let breaks = |id: &u8| !share(listing, *id).keeps_bound(behind[usize::from(*id)]);
+    ids(listing).into_iter().filter(breaks).collect()
+}
+
+/// The shortfalls with which the ids of a request enter the change; one newly listed enters with 0.
+fn at_request(run: &Run, asked: &Request) -> Shortfalls {
+    let stays = |id: &u8| run.present().lists(*id) && asked.listing[usize::from(*id)].is_some();
+    let owed = |id: u8| Some(id).filter(stays).map_or(0, |id| run.shortfall(id, asked.slot));
+    std::array::from_fn(|id| owed(id as u8))
+}
+
+/// A transition slot: its slot of the core, the shortfalls at its start, and who can have it so
+/// that every bound is kept.
+pub struct Waiting {
+    pub slot: u64,
+    pub shortfalls: Shortfalls,
+    pub owners: Vec<u8>,
+}
+
+/// The transition slots of a request as long as one id alone can have each, and the one behind.
+pub fn only_owners(run: &Run, asked: &Request) -> Vec<Waiting> {
+    let listing = &asked.listing;
+    let mut shortfalls = at_request(run, asked);
+    let mut waiting = Vec::new();
+    for slot in asked.slot..=asked.slot + LONGEST_TRANSITION as u64 {
+        let owners = ids(listing).into_iter().chain([IDLE]);
+        let owners: Vec<u8> =
+            owners.filter(|&owner| broken(listing, &shortfalls, owner).is_empty()).collect();
+        let next = <[u8; 1]>::try_from(&owners[..]);
+        waiting.push(Waiting { slot, shortfalls, owners });
+        let Ok([only]) = next else { break };
+        shortfalls = behind(listing, &shortfalls, only);
+    }
+    waiting
 }
 
 /// The schedule of a count that starts anew at the change: case B on the empty timetable.
@@ -73,6 +155,15 @@ pub fn left_and_returned() -> Run {
     let base = run_b().present().base;
     let others = record(base, 0, &[(DETECTOR, 2, 1), (VALVE, 1, 2)]);
     run_b().after(&others).after(&request_b(base, 0))
+}
+
+/// The lines that requests are answered with, one after another from the empty timetable.
+pub fn lines_of(requests: &[Vec<u8>]) -> Vec<String> {
+    let input: Vec<u8> = requests.iter().flat_map(|request| frame(request)).collect();
+    let mut output = Vec::new();
+    let printed = print_lines(&mut &input[..], &mut output);
+    let text = if printed.is_ok() { String::from_utf8_lossy(&output) } else { "".into() };
+    text.lines().map(String::from).collect()
 }
 
 /// The share of an id that is listed.
