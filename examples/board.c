@@ -1,5 +1,6 @@
-/* The library as a firmware uses it: a dispatcher beside a task that changes the timetable by cases A and B (docs/RULES.md 11.A and 11.B), and a
- * stored image at a start. The interrupts are plain calls here. See include/tarnflaw.h. Compiles as C99 and as C++11. */
+/* The library as a firmware uses it: a dispatcher beside a task that changes the timetable by cases A, C and E (docs/RULES.md 11.A, 11.C and 11.E),
+ * where C becomes B by a larger T, and a stored image at a start. The interrupts are plain calls here. See include/tarnflaw.h. Compiles as C99 and
+ * as C++11. */
 #include <signal.h>
 #include <stdio.h>
 #include <string.h>
@@ -10,10 +11,11 @@
 #define SLOT(slot) 1, 0, 8, 0, 0, 0, 0, 0, 0, 0, slot
 #define LIMIT(t) 2, 0, 1, t
 #define LIST(id, k, bound) 3, 0, 3, id, k, bound
+#define LIMIT_AT 14 /* the byte of a request that has T */
 
 static const uint8_t case_a[] = { SLOT(0), LIMIT(0), LIST(0, 2, 1), LIST(1, 2, 1) };
-static const uint8_t case_b[] = { SLOT(6), LIMIT(1), LIST(0, 2, 1), LIST(1, 2, 1), LIST(2, 1, 2) };
 static const uint8_t case_c[] = { SLOT(6), LIMIT(0), LIST(0, 2, 1), LIST(1, 2, 1), LIST(2, 1, 2) };
+static const uint8_t case_e[] = { SLOT(9), LIMIT(0), LIST(0, 2, 1), LIST(1, 2, 1), LIST(2, 1, 1) };
 static const uint8_t past[] = { SLOT(8), LIMIT(0), LIST(0, 2, 1), LIST(1, 2, 1) };
 static const uint8_t ahead[] = { SLOT(12), LIMIT(0), LIST(0, 2, 1), LIST(1, 2, 1) };
 
@@ -55,12 +57,34 @@ static uint8_t dispatch(uint64_t slot)
     return TARNFLAW_IDLE;
 }
 
-/* The task's change, on a copy of the image in force. If it is accepted, the copy waits for its request slot. */
-static void change(const char *name, const uint8_t *request, size_t request_size)
+/* Asks for a change of an image, and prints what is returned and told. Returns the number. */
+static uint8_t ask(const char *name, uint8_t *image, const uint8_t *request, size_t request_size)
 {
     uint8_t area[TARNFLAW_AREA];
     size_t place, written;
-    uint8_t number, tries;
+    uint8_t tries;
+    const uint8_t number = tarnflaw_change(image, TARNFLAW_IMAGE, request, request_size, area, sizeof area, &place, &tries, &written);
+
+    printf("%s: %u, place %zu, tries %u, %zu bytes\n", name, number, place, tries, written);
+    return number;
+}
+
+/* Asks once more, with the longest T. (A firmware that can't bear so long a transition has a limit of its own.) The request was read, and so it has
+ * at most TARNFLAW_REQUEST bytes. */
+static uint8_t ask_longest(uint8_t *image, const uint8_t *request, size_t request_size)
+{
+    uint8_t raised[TARNFLAW_REQUEST];
+
+    memcpy(raised, request, request_size);
+    raised[LIMIT_AT] = TARNFLAW_LONGEST;
+    return ask("the same with the longest T", image, raised, request_size);
+}
+
+/* The task's change, on a copy of the image in force. If all lengths up to T were searched in vain, it tries a larger T; if a slot is missed, no T
+ * helps. If the change is accepted, the copy waits for its request slot. */
+static void change(const char *name, const uint8_t *request, size_t request_size)
+{
+    uint8_t number;
     int next;
 
     if (copy == WAITING) {
@@ -69,10 +93,13 @@ static void change(const char *name, const uint8_t *request, size_t request_size
     }
     next = !in_force; /* not before: until here the dispatcher may have stored it */
     memcpy(images[next], images[in_force], TARNFLAW_IMAGE);
-    number = tarnflaw_change(images[next], TARNFLAW_IMAGE, request, request_size, area, sizeof area, &place, &tries, &written);
+    number = ask(name, images[next], request, request_size);
+    if (number == TARNFLAW_LENGTHS_EXHAUSTED && request[LIMIT_AT] < TARNFLAW_LONGEST)
+        number = ask_longest(images[next], request, request_size);
+    if (number == TARNFLAW_SLOT_MISSED || number == TARNFLAW_LENGTHS_EXHAUSTED)
+        printf("no T helps: a later slot, a larger R or a smaller share may\n");
     if (number == TARNFLAW_ACCEPTED)
         copy = WAITING;
-    printf("%s: %u, place %zu, tries %u, %zu bytes\n", name, number, place, tries, written);
 }
 
 /* Lets the slots from one to another begin. Prints who has them, what became of the copy, and how many slots were refused. */
@@ -91,7 +118,7 @@ static void run(uint64_t slot, uint64_t last)
     printf("; copy %s, refused %d\n", copy == WAITING ? "waiting" : copy == LATE ? "late" : "taken", (int)(refused - before));
 }
 
-/* What the board stores: an image, the version that it belongs to, the next slot, and a checksum over these. */
+/* What the board stores: an image, the version of the library that left it, the next slot, and a checksum over these. */
 struct stored {
     uint8_t image[TARNFLAW_IMAGE];
     uint8_t version;
@@ -117,7 +144,7 @@ static void start(const char *name, const struct stored *s)
     size_t place;
     uint8_t owner;
 
-    if (s->version != TARNFLAW_VERSION)
+    if (s->version < TARNFLAW_IMAGE_VERSION || s->version > TARNFLAW_VERSION)
         against = "other version";
     else if (s->sum != sum_of(s))
         against = "checksum";
@@ -139,7 +166,11 @@ static void starts(struct stored *s)
     struct stored other = *s;
 
     start("stored", s);
-    other.version++;
+    other.version = TARNFLAW_IMAGE_VERSION;
+    other.sum = sum_of(&other);
+    start("by the first version with such images", &other);
+    other.version = TARNFLAW_VERSION + 1;
+    other.sum = sum_of(&other);
     start("by another version", &other);
     other = *s;
     other.image[86] = 0;
@@ -162,9 +193,9 @@ int main(void)
     change("A, for slot 0", case_a, sizeof case_a);
     run(0, 1);
     change("C, for slot 6", case_c, sizeof case_c);
-    change("B, for slot 6", case_b, sizeof case_b);
-    change("another, while B waits", ahead, sizeof ahead);
+    change("another, while that waits", ahead, sizeof ahead);
     run(2, 8);
+    change("E, for slot 9", case_e, sizeof case_e);
 
     memcpy(s.image, images[in_force], TARNFLAW_IMAGE);
     s.version = TARNFLAW_VERSION;

@@ -10,11 +10,17 @@
 #define LIMIT(t) 2, 0, 1, t
 #define LIST(id, k, bound) 3, 0, 3, id, k, bound
 #define SHORT(id, k) 3, 0, 2, id, k
+/* What cases B and C list, and what D and E do. */
+#define LISTED_B LIST(0, 2, 1), SHORT(1, 2), LIST(2, 1, 2)
+#define LISTED_D LIST(0, 2, 1), LIST(1, 2, 1), LIST(2, 1, 1)
 
 static const uint8_t case_a[] = { SLOT(0), LIMIT(0), LIST(0, 2, 1), LIST(1, 2, 1) };
-static const uint8_t case_b[] = { SLOT(6), LIMIT(1), LIST(0, 2, 1), SHORT(1, 2), LIST(2, 1, 2) };
-static const uint8_t case_d[] = { SLOT(8), LIMIT(0), LIST(0, 2, 1), LIST(1, 2, 1), LIST(2, 1, 1) };
-static const uint8_t case_e[] = { SLOT(9), LIMIT(TARNFLAW_LONGEST), LIST(0, 2, 1), LIST(1, 2, 1), LIST(2, 1, 1) };
+static const uint8_t case_b[] = { SLOT(6), LIMIT(1), LISTED_B };
+static const uint8_t case_c[] = { SLOT(6), LIMIT(0), LISTED_B };
+static const uint8_t case_d[] = { SLOT(8), LIMIT(0), LISTED_D };
+static const uint8_t case_e_2[] = { SLOT(9), LIMIT(2), LISTED_D };
+static const uint8_t case_e_3[] = { SLOT(9), LIMIT(3), LISTED_D };
+static const uint8_t case_e_64[] = { SLOT(9), LIMIT(TARNFLAW_LONGEST), LISTED_D };
 static const uint8_t case_j[] = { SLOT(8), LIMIT(0), LIST(0, 0, 1), LIST(7, 8, 1) };
 static const uint8_t long_t[] = { SLOT(9), LIMIT(TARNFLAW_LONGEST + 1) };
 static const uint8_t high_id[] = { SLOT(9), LIMIT(0), LIST(TARNFLAW_IDS - 1, 2, 1), LIST(TARNFLAW_IDS, 2, 1) };
@@ -37,8 +43,9 @@ static const char *says(uint8_t number)
     case TARNFLAW_TOO_EARLY: return "too early";
     case TARNFLAW_OVERFULL: return "overfull";
     case TARNFLAW_BEHIND: return "behind";
-    case TARNFLAW_NO_SCHEDULE: return "no schedule";
+    case TARNFLAW_SLOT_MISSED: return "slot missed";
     case TARNFLAW_NOT_LISTED: return "not listed";
+    case TARNFLAW_LENGTHS_EXHAUSTED: return "lengths exhausted";
     }
     return "no number of the header";
 }
@@ -189,7 +196,9 @@ static void refusals(void)
     CHANGE("F, B once more", case_b);
     CHANGE("J, after B", case_j);
     CHANGE("D", case_d);
-    CHANGE("E with the longest T", case_e);
+    CHANGE("E with T 2", case_e_2);
+    CHANGE("E with T 3", case_e_3);
+    CHANGE("E with the longest T", case_e_64);
 }
 
 int main(void)
@@ -198,7 +207,7 @@ int main(void)
     uint8_t older[TARNFLAW_IMAGE];
     uint8_t number;
 
-    printf("version %d\n", TARNFLAW_VERSION);
+    printf("version %d, images since version %d\n", TARNFLAW_VERSION, TARNFLAW_IMAGE_VERSION);
     memset(image, 0xff, sizeof image);
     number = tarnflaw_owner(image, TARNFLAW_IMAGE, 0, &place, &owner);
     printf("bytes ff: %u %s\n", number, says(number));
@@ -210,6 +219,7 @@ int main(void)
     printf("its slot 0: %s\n", owner == TARNFLAW_IDLE ? "idle" : "not idle");
 
     CHANGE("A", case_a);
+    CHANGE("C", case_c);
     memcpy(older, image, TARNFLAW_IMAGE);
     show_record(case_b, sizeof case_b);
     show_record(area, CHANGE("B", case_b));

@@ -42,12 +42,25 @@
  *     each listed id,   12 00 02      id, offset
  *     ids rising
  *
+ * Refused for want of a schedule
+ *
+ * 9 and 11 both say that no transition of up to T slots leads to a schedule. They tell whether a larger T may help, where the image and the rest of
+ * the request stay as they are (docs/RULES.md 1.8 and 4.7):
+ *
+ *     TARNFLAW_LENGTHS_EXHAUSTED   place T: all lengths 0 to T were searched. A larger T, up to TARNFLAW_LONGEST, may help: ask again with one. What
+ *                                  is accepted then has a transition of more than T slots
+ *     TARNFLAW_SLOT_MISSED         place k: transition slot k, counted from 0, is missed. Every larger T gets the same answer
+ *
+ * So after 9, or after 11 with T at TARNFLAW_LONGEST, no T helps. A later slot, a larger R or a smaller share (a larger k) may. In version 1 both
+ * were 9 with place 0, TARNFLAW_NO_SCHEDULE: a firmware that looked for that looks for 9 and for 11.
+ *
  * Stored images
  *
- * An image belongs to one version of the library, TARNFLAW_VERSION, which is raised whenever an answer, a record or the image changes its
- * meaning. Within one version an image is the same on every machine. A firmware that stores an image stores beside it:
+ * The library has a version, TARNFLAW_VERSION, which is raised whenever an answer, a record or the image changes its meaning. The image changed it last
+ * in version TARNFLAW_IMAGE_VERSION: one that was stored by that version or a later one means the same today (version 2 changed refusals alone, those
+ * above), and is the same on every machine. A firmware that stores an image stores beside it:
  *
- *     the version     where another version stands there, it starts from tarnflaw_empty, or refuses to start
+ *     the version     where it is below TARNFLAW_IMAGE_VERSION or above TARNFLAW_VERSION, it starts from tarnflaw_empty, or refuses to start
  *     a checksum      of its own, since soundness is none: of 69,615 images that differ from case B's in one byte 675 are sound. Byte 86,
  *                     say, the low byte of id 0's kept shortfall, may hold anything: with 0 there id 0 stands at 0 at slot 7, and not at 192
  *     the next slot   since the slots belong to the image. A board that counts from 0 again is refused 6 before the image's request slot; one that
@@ -140,7 +153,8 @@
 extern "C" {
 #endif
 
-#define TARNFLAW_VERSION 1                   /* the version of the library, to be stored beside an image */
+#define TARNFLAW_VERSION 2                   /* the version of the library, to be stored beside an image */
+#define TARNFLAW_IMAGE_VERSION 1             /* the first version whose images mean what they mean today */
 #define TARNFLAW_IMAGE 273                   /* bytes of an image */
 #define TARNFLAW_REQUEST 207                 /* bytes that a request has at most */
 #define TARNFLAW_AREA 231                    /* bytes that an answer has at most, and an answer area at least */
@@ -151,17 +165,18 @@ extern "C" {
 
 /* The numbers (docs/RULES.md 7.1). */
 enum tarnflaw_number {
-    TARNFLAW_ACCEPTED = 0,      /* accepted */
-    TARNFLAW_NOT_SOUND = 1,     /* timetable not sound */
-    TARNFLAW_SMALL_AREA = 2,    /* answer area under 231 bytes */
-    TARNFLAW_BAD_FIELD = 3,     /* field cut off, missing, unknown, out of order or of wrong length */
-    TARNFLAW_OUT_OF_RANGE = 4,  /* value out of range */
-    TARNFLAW_NOT_RISING = 5,    /* id not above the one before */
-    TARNFLAW_TOO_EARLY = 6,     /* slot too early */
-    TARNFLAW_OVERFULL = 7,      /* weights sum above 256 */
-    TARNFLAW_BEHIND = 8,        /* shortfall at the request slot not below 256 x new R */
-    TARNFLAW_NO_SCHEDULE = 9,   /* no length up to T gives a schedule */
-    TARNFLAW_NOT_LISTED = 10    /* id not listed */
+    TARNFLAW_ACCEPTED = 0,           /* accepted */
+    TARNFLAW_NOT_SOUND = 1,          /* timetable not sound */
+    TARNFLAW_SMALL_AREA = 2,         /* answer area under 231 bytes */
+    TARNFLAW_BAD_FIELD = 3,          /* field cut off, missing, unknown, out of order or of wrong length */
+    TARNFLAW_OUT_OF_RANGE = 4,       /* value out of range */
+    TARNFLAW_NOT_RISING = 5,         /* id not above the one before */
+    TARNFLAW_TOO_EARLY = 6,          /* slot too early */
+    TARNFLAW_OVERFULL = 7,           /* weights sum above 256 */
+    TARNFLAW_BEHIND = 8,             /* shortfall at the request slot not below 256 x new R */
+    TARNFLAW_SLOT_MISSED = 9,        /* a transition slot is missed, no length up to it gives a schedule */
+    TARNFLAW_NOT_LISTED = 10,        /* id not listed */
+    TARNFLAW_LENGTHS_EXHAUSTED = 11  /* no length up to T gives a schedule, all were searched */
 };
 
 /* Makes the image of the empty timetable (docs/RULES.md 3.3): request slot 0, nothing listed. Whatever the bytes held before is lost.
@@ -178,12 +193,14 @@ uint8_t tarnflaw_empty(uint8_t *image, size_t image_size);
  *     area, area_size         the answer area, TARNFLAW_AREA bytes or more; on acceptance the answer is at its start,
  *                             and the bytes after it stay as they were
  *     place                   told: where the refusal is. For 3 to 5 the byte of the request where the field begins (its size, where a field
- *                             is missing at its end), for 7 and 8 an id, otherwise 0
+ *                             is missing at its end), for 7 and 8 an id, for 9 the transition slot that is missed, counted from 0,
+ *                             for 11 T, otherwise 0
  *     tries                   told: the number of transition lengths searched; 0 where 1 to 8 is returned
  *     written                 told: the bytes of the answer; 0 on a refusal
  *
- * Refuses 1 to 9, by the lowest stage (docs/RULES.md 7.2). 6 means that the request slot lies before the base: no change begins within the
- * transition of the one before (docs/RULES.md 7.3). What slot it is now it does not know: from the base on it accepts one that has passed. */
+ * Refuses 1 to 9 and 11, by the first stage that refuses (docs/RULES.md 7.2); 9 and 11 are the last. 6 means that the request slot lies before the
+ * base: no change begins within the transition of the one before (docs/RULES.md 7.3). What slot it is now it does not know: from the base on it
+ * accepts one that has passed. After 11 a larger T may help, after 9 it can't: see "Refused for want of a schedule". */
 uint8_t tarnflaw_change(uint8_t *image, size_t image_size,
                         const uint8_t *request, size_t request_size,
                         uint8_t *area, size_t area_size,

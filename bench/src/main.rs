@@ -21,7 +21,7 @@ use std::error::Error;
 
 use desk::Desk;
 use inputs::{listed_ids, Input};
-use port::number::{ACCEPTED, NO_SCHEDULE};
+use port::number::{ACCEPTED, LENGTHS_EXHAUSTED};
 use port::{IDS, LONGEST};
 use rows::{Asked, Inputs};
 use table::Section;
@@ -78,7 +78,7 @@ fn arguments() -> Option<Arguments> {
 fn all_inputs(seed: u64) -> Inputs {
     Inputs {
         source: source::source_inputs(seed, HISTORIES),
-        exhausted: worst::worst_inputs(seed, NO_SCHEDULE, WORST),
+        exhausted: worst::worst_inputs(seed, LENGTHS_EXHAUSTED, WORST),
         found: worst::worst_inputs(seed, ACCEPTED, WORST),
     }
 }
@@ -130,13 +130,13 @@ fn compare_programs(arguments: &Arguments) -> Result<usize, Box<dyn Error>> {
 
 /// Prints how the requests of the workload end.
 fn describe(inputs: &[Input]) {
-    let mut numbers = [0; 11];
+    let mut numbers = [0; 12];
     for outcome in inputs.iter().map(Input::outcome) {
         numbers[usize::from(outcome.number)] += 1;
     }
-    let [accepted, .., behind, missed, _] = numbers;
+    let [accepted, .., behind, missed, _, exhausted] = numbers;
     print!("\nOf the {} requests of (a) {accepted} are accepted, ", inputs.len());
-    println!("{behind} refused 8, {missed} refused 9.");
+    println!("{behind} refused 8, {missed} refused 9, {exhausted} refused 11.");
 }
 
 /// Prints the stack's depth over all changes.

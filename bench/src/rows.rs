@@ -58,7 +58,7 @@ fn with_tries(inputs: &[Input], fewest: u8) -> Vec<Input> {
 /// The worst case.
 pub fn worst(inputs: &Inputs) -> Section {
     let rows = vec![
-        changes("in vain (refused 9)", &inputs.exhausted, WORST_EFFORT),
+        changes("in vain (refused 11)", &inputs.exhausted, WORST_EFFORT),
         changes("found at 64", &inputs.found, WORST_EFFORT),
     ];
     Section { letter: "b", title: "The worst case: 32 partitions, T 64, tries 65", rows }

@@ -1,7 +1,7 @@
 //! The change of a timetable by a request: the stages in their order, then the search.
 
 use crate::entry::Entry;
-use crate::number::{ACCEPTED, BEHIND, NOT_SOUND, NO_SCHEDULE, OVERFULL, SMALL_AREA, TOO_EARLY};
+use crate::number::{ACCEPTED, BEHIND, NOT_SOUND, OVERFULL, SMALL_AREA, TOO_EARLY};
 use crate::records::{read_request, write_answer, Ask, Request};
 use crate::search::{search, Listed, Searched};
 use crate::timetable::{Timetable, AREA, IDS, WHOLE};
@@ -35,8 +35,9 @@ pub fn change_timetable(timetable: &mut Timetable, record: &[u8], area: &mut [u8
         Err(refusal) => return Outcome::refused(refusal, 0),
     };
     let searched = search(listed, request.longest);
-    let Some(length) = searched.length else {
-        return Outcome::refused(Refusal::at(NO_SCHEDULE, 0), searched.tries);
+    let length = match searched.length {
+        Ok(length) => length,
+        Err(refusal) => return Outcome::refused(refusal, searched.tries),
     };
     accept(timetable, request.slot, length, listed, &searched);
     let owners = &timetable.owners[..usize::from(length)];

@@ -27,8 +27,9 @@ pub mod number {
     pub const TOO_EARLY: u8 = 6;
     pub const OVERFULL: u8 = 7;
     pub const BEHIND: u8 = 8;
-    pub const NO_SCHEDULE: u8 = 9;
+    pub const SLOT_MISSED: u8 = 9;
     pub const NOT_LISTED: u8 = 10;
+    pub const LENGTHS_EXHAUSTED: u8 = 11;
 }
 
 /// The number and the place of a refusal.
