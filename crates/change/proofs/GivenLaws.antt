@@ -35,7 +35,7 @@ use Rattle.timetable.specs.Timetable.{entryOf, isListed, startShortfall, withOf
 use Rattle.transition.proofs.Plans.{Fit}
 use Rattle.transition.proofs.Reach.{fit-reached}
 use Rattle.transition.proofs.RuleThreeLaws.{longer-breaks, reach-rule, reach-walked}
-use Rattle.transition.proofs.Search.{PassedFirst}
+use Rattle.transition.proofs.Search.{PassedFirst, passed-here}
 use Rattle.transition.proofs.Walk.{owners-stay, walked}
 use Rattle.transition.specs.declared.Plan.{Plan}
 use Rattle.transition.specs.Reach.{AnyoneBreaks, reach}
@@ -148,12 +148,10 @@ module _ (t : Timetable) (q : Request) (area : ℕ) (pass : Admitted t q area) w
     -- A slot that the urgent rule cannot give is missed.
     want-missed : n < q .limit → longer n x ≡ none → Wanting t q n SLOT-MISSED
     want-missed l miss =
-        let w = b n (omega arith) in
-        let y : w .0 ≡ x = cc (w .1) in
         want SLOT-MISSED
         (missed l
         (subst AnyoneBreaks (on-the-way n small x here n (omega arith) x here)
-        (longer-breaks n x (fit-here n small x here) (subst (λ (p : Plan). placement (p .entries) ≡ none) y (w .2)) miss)))
+        (longer-breaks n x (fit-here n small x here) (passed-here n 0 plan x b here) miss)))
 
 -- A schedule is wanting by 9 or by 11.
 pub wanting-number : (t : Timetable) (q : Request) (n number : ℕ) → Wanting t q n number → (number ≡ SLOT-MISSED) ⊎ (number ≡ LENGTHS-EXHAUSTED)

@@ -23,7 +23,7 @@ use Rattle.placement.specs.Any.{Lists, NoPlacement}
 use Rattle.placement.specs.RuleFour.{ByRuleFour}
 use Rattle.records.proofs.AnswerPlaces.{answer-one}
 use Rattle.records.proofs.ReadLaws.{RequestRange}
-use Rattle.records.proofs.ReadSteps.{request-is}
+use Rattle.records.proofs.ReadSteps.{as-read}
 use Rattle.records.specs.AnswerForm.{AnswerStands}
 use Rattle.records.specs.declared.ReadRequest.{ReadRequest}
 use Rattle.numbers.specs.declared.Refusal.{Refusal}
@@ -153,6 +153,20 @@ module _ (t : Timetable) (q : Request) (start : List Entry) (s : AtRequest t q s
         let e = entries-one in
         λ j. record { request = a j; length = b j; owners = c j; base = record { 0 = d j }; entries = e j }
 
+-- ---- the end of a search in vain
+
+-- The search ends at T at the latest.
+ends-by-T : (limit n : ℕ) (es : List Entry) (x : ℕ) → EndsAt limit n es x → n ≤ limit
+ends-by-T limit n es x (missed l _) = omega arith
+ends-by-T limit n es x (exhausted z) = omega arith
+
+-- An end at one length has one number.
+number-one : (limit n m : ℕ) (es fs : List Entry) (x y : ℕ) → n ≡ m → EndsAt limit n es x → EndsAt limit m fs y → x ≡ y
+number-one limit n m es fs x y e (missed _ _) (missed _ _) = refl
+number-one limit n m es fs x y e (missed l _) (exhausted z) = absurd (omega arith)
+number-one limit n m es fs x y e (exhausted z) (missed l _) = absurd (omega arith)
+number-one limit n m es fs x y e (exhausted _) (exhausted _) = refl
+
 -- ---- the whole
 
 module _ (t : Timetable) (q : Request) (range : RequestRange q) (fine : (i : ℕ) → i < IDS → Behind (entryOf (startEntries t (q .slot) (q .asks)) i) → ⊥) where
@@ -185,26 +199,14 @@ module _ (t : Timetable) (q : Request) (range : RequestRange q) (fine : (i : ℕ
           not-past t q (w .start) (w .starts) (start-in-range (w .start) (w .starts)) (w .owners) owners n m (w .transition)
           (subst (λ (es : List Entry). ByRuleThree es owners m) (start-one t q start (w .start) s (w .starts)) r) l broken
 
-  -- The search ends at T at the latest.
-  ends-below : (limit n : ℕ) (es : List Entry) (x : ℕ) → EndsAt limit n es x → n ≤ limit
-  ends-below limit n es x (missed l _) = omega arith
-  ends-below limit n es x (exhausted z) = omega arith
-
   -- A schedule is wanting at one length.
   wanting-one : (n x m y : ℕ) → Wanting t q n x → Wanting t q m y → n ≡ m
   wanting-one n x m y a b = at (decLt n m) (decLt m n)
     where
       at : Dec (n < m) → Dec (m < n) → n ≡ m
-      at (yes l) _ = absurd (not-beyond n x a (b .start) (b .starts) (b .owners) m (b .transition) (ends-below _ m _ y (b .ends)) l)
-      at (no _) (yes l) = absurd (not-beyond m y b (a .start) (a .starts) (a .owners) n (a .transition) (ends-below _ n _ x (a .ends)) l)
+      at (yes l) _ = absurd (not-beyond n x a (b .start) (b .starts) (b .owners) m (b .transition) (ends-by-T _ m _ y (b .ends)) l)
+      at (no _) (yes l) = absurd (not-beyond m y b (a .start) (a .starts) (a .owners) n (a .transition) (ends-by-T _ n _ x (a .ends)) l)
       at (no k) (no l) = omega arith
-
-  -- An end at one length has one number.
-  number-one : (n m : ℕ) (es fs : List Entry) (x y : ℕ) → n ≡ m → EndsAt (q .limit) n es x → EndsAt (q .limit) m fs y → x ≡ y
-  number-one n m es fs x y e (missed _ _) (missed _ _) = refl
-  number-one n m es fs x y e (missed l _) (exhausted z) = absurd (omega arith)
-  number-one n m es fs x y e (exhausted z) (missed l _) = absurd (omega arith)
-  number-one n m es fs x y e (exhausted _) (exhausted _) = refl
 
   -- Where there is an acceptance no schedule is wanting.
   not-wanting : (before : List ℕ) (r : Outcome) (out : List ℕ) (n number : ℕ) → Accepted t q before r out → Wanting t q n number → ⊥
@@ -227,12 +229,8 @@ module _ (t : Timetable) (q : Request) (range : RequestRange q) (fine : (i : ℕ
           (w .passed (x .length) (omega arith)))
 
 module _ (t : Timetable) (s area : List ℕ) where
-  -- A record is read in one way.
-  as-read : (P : ReadRequest → Type 0) (read : ReadRequest) → RequestRead s read → P read → P (readRequest s)
-  as-read P read e = subst P (sym (request-is s read e))
-
   judged : (v : Verdict) (read : ReadRequest) → RequestRead s read → StagesSay t read (length area) v → verdictBefore t (readRequest s) (length area) ≡ v
-  judged v read e p = stages t (readRequest s) (length area) .only v (as-read (λ y. StagesSay t y (length area) v) read e p)
+  judged v read e p = stages t (readRequest s) (length area) .only v (as-read (λ y. StagesSay t y (length area) v) s read e p)
 
   -- No request is both refused before the search and searched.
   not-early : (x : Refusal) (a b : ReadRequest) → RequestRead s a → RequestRead s b → StagesSay t a (length area) (Refused x)
@@ -241,7 +239,7 @@ module _ (t : Timetable) (s area : List ℕ) where
 
   -- A request that is searched is in range, and nobody in it is behind.
   passes : (read : ReadRequest) → RequestRead s read → StagesSay t read (length area) Passed → Admitted t (readRequest s .request) (length area)
-  passes read e p = admitted t s (length area) (as-read (λ y. StagesSay t y (length area) Passed) read e p)
+  passes read e p = admitted t s (length area) (as-read (λ y. StagesSay t y (length area) Passed) s read e p)
 
   -- The rules leave one outcome and one content of the area.
   pub gives-one : (r r′ : Outcome) (out out′ : List ℕ) → Gives t s area r out → Gives t s area r′ out′ → (r ≡ r′) × (out ≡ out′)
@@ -256,25 +254,25 @@ module _ (t : Timetable) (s area : List ℕ) where
   gives-one r r′ out out′ (schedule a d p u v w) (schedule b e q u′ v′ w′) =
       let g = passes a d p in
       accepted-one t (readRequest s .request) (g .range) (g .fine) area u u′ v v′
-      (as-read (λ y. Accepted t (y .request) area u v) a d w)
-      (as-read (λ y. Accepted t (y .request) area u′ v′) b e w′)
+      (as-read (λ y. Accepted t (y .request) area u v) s a d w)
+      (as-read (λ y. Accepted t (y .request) area u′ v′) s b e w′)
   gives-one r r′ out out′ (schedule a d p u v w) (wanting b e q n k x) =
       let g = passes a d p in
       absurd
       (not-wanting t (readRequest s .request) (g .range) (g .fine) area u v n k
-      (as-read (λ y. Accepted t (y .request) area u v) a d w)
-      (as-read (λ y. Wanting t (y .request) n k) b e x))
+      (as-read (λ y. Accepted t (y .request) area u v) s a d w)
+      (as-read (λ y. Wanting t (y .request) n k) s b e x))
   gives-one r r′ out out′ (wanting a d p n k x) (early b e y q) = absurd (not-early y b a e d q p)
   gives-one r r′ out out′ (wanting a d p n k x) (schedule b e q u v w) =
       let g = passes a d p in
       absurd
       (not-wanting t (readRequest s .request) (g .range) (g .fine) area u v n k
-      (as-read (λ y. Accepted t (y .request) area u v) b e w)
-      (as-read (λ y. Wanting t (y .request) n k) a d x))
+      (as-read (λ y. Accepted t (y .request) area u v) s b e w)
+      (as-read (λ y. Wanting t (y .request) n k) s a d x))
   gives-one r r′ out out′ (wanting a d p n k x) (wanting b e q m l y) =
       let g = passes a d p in
-      let i = as-read (λ z. Wanting t (z .request) n k) a d x in
-      let j = as-read (λ z. Wanting t (z .request) m l) b e y in
+      let i = as-read (λ z. Wanting t (z .request) n k) s a d x in
+      let j = as-read (λ z. Wanting t (z .request) m l) s b e y in
       let z = wanting-one t (readRequest s .request) (g .range) (g .fine) n k m l i j in
-      let w = number-one t (readRequest s .request) (g .range) (g .fine) n m _ _ k l z (i .ends) (j .ends) in
+      let w = number-one (readRequest s .request .limit) n m _ _ k l z (i .ends) (j .ends) in
       (ap₂ (λ (number n : ℕ). refusedWith t number n (suc n)) w z, refl)

@@ -1,17 +1,14 @@
--- A request with a larger T: the stages before the search do not look at T, and a search that was not exhausted ends alike. Assumes nothing.
+-- A request with a larger T: once it is read, the stages before the search do not look at T, and a search that is not exhausted ends alike. Assumes nothing.
 use mathlib.Core.List.{List}
 use mathlib.Core.Logic.{_≢_}
-use mathlib.Core.Path.{_≡_, refl, sym, ap, _∙_, subst}
-use native.Mathlib.Omega.{arith}
+use mathlib.Core.Path.{_≡_, refl, ap, _∙_}
 use Prim.Native.Nat.{ℕ, _≤_}
-use Rattle.change.specs.Change.{answer, answerOf, answerTo, numberOf, placeOf, refuse, searchOf, startPlan, timetableOf}
-use Rattle.change.specs.declared.Answer.{Answer}
+use Rattle.change.specs.Change.{answer, answerOf, answerTo, numberOf, placeOf, searchOf, startPlan, timetableOf}
 use Rattle.change.specs.Stages.{stageEarly, stageFields, stagesFirst, verdictBefore}
 use Rattle.numbers.specs.declared.Verdict.{Verdict}
 use Rattle.numbers.specs.declared.Verdict.the-variants.{Passed, Refused}
 use Rattle.numbers.specs.Numbers.{LENGTHS-EXHAUSTED}
 use Rattle.records.specs.declared.ReadRequest.{ReadRequest}
-use Rattle.records.specs.declared.Request.{Request}
 use Rattle.records.specs.Request.{readRequest}
 use Rattle.timetable.specs.declared.Timetable.{Timetable}
 use Rattle.transition.proofs.Search.{search-raised}
@@ -28,7 +25,7 @@ withT limit read = record {
 
 module _ (t : Timetable) (read : ReadRequest) (limit : ℕ) where
   -- The stages before the search do not look at T.
-  verdict-raised : (area : ℕ) → verdictBefore t (withT limit read) area ≡ verdictBefore t read area
+  pub verdict-raised : (area : ℕ) → verdictBefore t (withT limit read) area ≡ verdictBefore t read area
   unfolding verdictBefore stagesFirst stageFields stageEarly
   verdict-raised area = refl
 

@@ -1,4 +1,4 @@
--- docs/RULES.md 4, 7.4 and 7.5: the whole outcome of a request.
+-- docs/RULES.md 4, 7.1, 7.4 and 7.5: the whole outcome of a request.
 use lib.Dec.{eqb}
 use lib.ListN.{length, replicate}
 use lib.Seq.{sets}

@@ -69,13 +69,13 @@ pub record Accepted (t : Timetable) (q : Request) (before : List ℕ) (r : Outco
   pub tries : r .tries ≡ suc (r .timetable .length)
   pub answer : AnswerStands before (r .timetable .length) (r .timetable .owners) (r .timetable .entries) (r .written) after
 
--- How a search without a placement ends at length n, from the entries there, and its number: slot n, below T, is missed, since whoever gets it a bound is
--- broken; or n is T, whatever slot T would bring.
+-- How the lengths end in vain at n, from the entries there, and the number of it: slot n, below T, is missed, since whoever gets it a bound is broken; or n
+-- is T, whatever slot T would bring.
 pub data EndsAt (limit n : ℕ) (there : List Entry) : ℕ → Type 0 where
   missed : n < limit → AnyoneBreaks there → EndsAt limit n there SLOT-MISSED
   exhausted : n ≡ limit → EndsAt limit n there LENGTHS-EXHAUSTED
 
--- No length up to T gives a schedule: each length up to n is passed over, and there the search ends, with this number.
+-- No length up to T gives a schedule: each length up to n is passed over, and there they end, with this number.
 pub record Wanting (t : Timetable) (q : Request) (n number : ℕ) : Type 0 where
   pub start : List Entry
   pub starts : AtRequest t q start
@@ -96,6 +96,6 @@ pub data Gives (t : Timetable) (s before : List ℕ) : Outcome → List ℕ → 
   -- a schedule
   schedule : (read : ReadRequest) → RequestRead s read → StagesSay t read (length before) Passed → (r : Outcome) (after : List ℕ)
       → Accepted t (read .request) before r after → Gives t s before r after
-  -- the refusal for want of a schedule: its place is the length at which the search ends, with a try for each length passed over
+  -- the refusal for want of a schedule: its place is the length at which they end, with a try for each length passed over
   wanting : (read : ReadRequest) → RequestRead s read → StagesSay t read (length before) Passed → (n number : ℕ) → Wanting t (read .request) n number
       → Gives t s before (refusedWith t number n (suc n)) before

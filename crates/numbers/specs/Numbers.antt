@@ -38,7 +38,7 @@ OVERFULL = 7
 abbrev pub BEHIND : ℕ
 BEHIND = 8
 
--- a transition slot is missed, no length up to it gives a schedule
+-- a transition slot below T is missed, no length up to it gives a schedule
 abbrev pub SLOT-MISSED : ℕ
 SLOT-MISSED = 9
 

@@ -36,7 +36,7 @@ impl Refusal {
     // shortfall at the request slot not below 256 x new R
     pub const BEHIND: u8 = 8;
 
-    // a transition slot is missed, no length up to it gives a schedule
+    // a transition slot below T is missed, no length up to it gives a schedule
     pub const SLOT_MISSED: u8 = 9;
 
     // id not listed

@@ -4,7 +4,7 @@ use lib.ListN.{length}
 use lib.Seq.{length-sets, sets}
 use mathlib.Core.Bool.{true}
 use mathlib.Core.List.{List}
-use mathlib.Core.Logic.{_≢_, inl, inr}
+use mathlib.Core.Logic.{_≢_, _⊎_, inl, inr}
 use mathlib.Core.Option.{Option, none, some}
 use mathlib.Core.Path.{_≡_, refl, sym, ap, ap₂, _∙_, subst}
 use native.Mathlib.Decide.{decLt}
@@ -15,7 +15,7 @@ use Rattle.change.proofs.Histories.{history-valid}
 use Rattle.change.proofs.GivenLaws.{at-request, gives, wanting-number}
 use Rattle.change.proofs.OneGiven.{gives-one}
 use Rattle.change.proofs.QueriedLaws.{owner-given, owner-only, standing-given, standing-only}
-use Rattle.change.proofs.Raised.{answer-raised, withT}
+use Rattle.change.proofs.Raised.{answer-raised, verdict-raised, withT}
 use Rattle.change.proofs.Stages.{stages}
 use Rattle.change.specs.Change.{answer, answerTo, answerOf, outcome, outcomeOf, areaAfter, recordOf, refuse, searchOf, startPlan, written}
 use Rattle.change.specs.Controller.{historyOf}
@@ -28,12 +28,12 @@ use Rattle.change.specs.Stages.{verdictBefore}
 use Rattle.placement.proofs.Complete.{placement-none, placement-some}
 use Rattle.placement.specs.Any.{CyclicPlacement}
 use Rattle.placement.specs.Placement.{Place, placement}
-use Rattle.promises.proofs.Lengths.{accepted-iff, exhausted-iff, missed-iff, refused-iff}
+use Rattle.promises.proofs.Lengths.{accepted-iff, exhausted-iff, missed-iff, passed-number, refused-iff}
 use Rattle.promises.specs.Promises.{SoundStays, Windows, OneOwner, PlacementComplete, Passes, Shortest, Tries, Stages, OneForm, KeptShortfall, Queries, Exact, Figures, LargerT, RaisingT}
 use Rattle.records.proofs.AnswerLaws.{answer-length}
 use Rattle.records.proofs.OneForm.{one-form}
 use Rattle.records.proofs.ReadLaws.{read-in-range, refused-in-range}
-use Rattle.records.proofs.ReadSteps.{request-read, request-is}
+use Rattle.records.proofs.ReadSteps.{as-read, read-alike, request-is, request-read}
 use Rattle.records.proofs.RoundTrip.{round-trip}
 use Rattle.records.proofs.SetsLaws.{sets-rest}
 use Rattle.records.specs.declared.ReadRequest.{ReadRequest}
@@ -187,7 +187,7 @@ stages-kept = record {
         → r .number ≢ ACCEPTED → r .number ≢ SLOT-MISSED → r .number ≢ LENGTHS-EXHAUSTED
         → StagesSay t read (length area) (Refused (record { number = r .number; place = r .place }))
     only t s area read e r out (early a d x p) n m l =
-        subst (λ (y : ReadRequest). StagesSay t y (length area) (Refused x)) (sym (request-is s a d) ∙ request-is s read e) p
+        read-alike (λ y. StagesSay t y (length area) (Refused x)) s a read d e p
     only t s area read e r out (schedule a d p u v w) n m l = absurd (n (w .number))
     only t s area read e r out (wanting a d p k x w) n m l = absurd (elim (wanting-number t (a .request) k x w) [ inl z ↦ m z | inr z ↦ l z ])
 
@@ -257,13 +257,10 @@ figures = record { numbers = refl; limits = refl }
 passes : (t : Timetable) (s area : List ℕ) → (0 < outcome t s area .number → outcome t s area .number < SLOT-MISSED → ⊥) → Passes t s (length area)
 passes t s area = at (outcome t s area) (areaAfter t s area) (gives t s area)
   where
-    as-read : (v : Verdict) (read : ReadRequest) → RequestRead s read → StagesSay t read (length area) v → StagesSay t (readRequest s) (length area) v
-    as-read v read e = subst (λ (y : ReadRequest). StagesSay t y (length area) v) (sym (request-is s read e))
-
     at : (r : Outcome) (out : List ℕ) → Gives t s area r out → (0 < r .number → r .number < SLOT-MISSED → ⊥) → Passes t s (length area)
-    at r out (early a d x p) n = let k = refusal-number t s (length area) x (as-read (Refused x) a d p) in absurd (n (k .0) (k .1))
-    at r out (schedule a d p u v w) n = as-read Passed a d p
-    at r out (wanting a d p k x w) n = as-read Passed a d p
+    at r out (early a d x p) n = let k = refusal-number t s (length area) x (as-read (λ y. StagesSay t y (length area) (Refused x)) s a d p) in absurd (n (k .0) (k .1))
+    at r out (schedule a d p u v w) n = as-read (λ y. StagesSay t y (length area) Passed) s a d p
+    at r out (wanting a d p k x w) n = as-read (λ y. StagesSay t y (length area) Passed) s a d p
 
 module _ (t : Timetable) (s s′ area : List ℕ) (larger : LargerT s s′) where
   abbrev limit : ℕ
@@ -288,7 +285,17 @@ module _ (t : Timetable) (s s′ area : List ℕ) (larger : LargerT s s′) wher
       let e = answer-raised t s s′ (length area) same-request (larger .larger) n in
       (ap outcomeOf e, ap (λ (a : Answer). written a area) e)
 
-  -- After an 11: what would be accepted, or missed, up to T would have been so with T.
+  -- After an 11 the request passes with a larger T too.
+  raised-again : outcome t s area .number ≡ LENGTHS-EXHAUSTED
+      → (outcome t s′ area .number ≡ ACCEPTED) ⊎ (outcome t s′ area .number ≡ SLOT-MISSED) ⊎ (outcome t s′ area .number ≡ LENGTHS-EXHAUSTED)
+  unfolding outcome
+  raised-again z =
+      passed-number t s′ (length area)
+      (ap (λ (read : ReadRequest). verdictBefore t read (length area)) same-request
+      ∙ verdict-raised t (readRequest s) (readRequest s′ .request .limit) (length area)
+      ∙ no-refusal t s (length area) (passes t s area (λ a b. omega (arith, z))))
+
+  -- What would be accepted, or missed, up to T would have been so with T.
   raised-longer : outcome t s area .number ≡ LENGTHS-EXHAUSTED → outcome t s′ area .number ≡ ACCEPTED → limit < outcome t s′ area .timetable .length
   raised-longer z y = at (decLt limit n)
     where
@@ -322,6 +329,7 @@ raising-T t s s′ area larger = record {
   missed = λ e. unmoved t s s′ area larger (λ z. omega (arith, e, z));
   accepted = λ e. unmoved t s s′ area larger (λ z. omega (arith, e, z));
   before = λ _ _ n. unmoved t s s′ area larger n;
+  again = raised-again t s s′ area larger;
   longer = raised-longer t s s′ area larger;
   later = raised-later t s s′ area larger;
 }

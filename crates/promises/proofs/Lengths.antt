@@ -27,7 +27,7 @@ use Rattle.timetable.specs.declared.Timetable.{Timetable}
 use Rattle.timetable.specs.Timetable.{entryOf}
 use Rattle.transition.proofs.Plans.{Fit}
 use Rattle.transition.proofs.Reach.{fit-reached}
-use Rattle.transition.proofs.Search.{PassedFirst}
+use Rattle.transition.proofs.Search.{PassedFirst, passed-here}
 use Rattle.transition.proofs.RuleThreeLaws.{goes-kept, longer-breaks}
 use Rattle.transition.proofs.Walk.{step-before, reach-before}
 use Rattle.transition.specs.declared.Plan.{Plan}
@@ -63,10 +63,6 @@ module _ (plan : Plan) (fit : Fit 0 plan) where
   has-not-none n l p e z w =
       let q : w .0 ≡ p = same-plan (reach plan n) (w .0) p (w .1) e in
       passed-over n l p e z .2 (w .2 .0) (subst (λ (x : Plan). CyclicPlacement (x .entries) (w .2 .0)) q (w .2 .1))
-
-  -- A slot that the urgent rule cannot give, after a length without a placement, breaks a bound.
-  slot-breaks : (k : ℕ) → k ≤ LONGEST → (p : Plan) → reach plan k ≡ some p → placement (p .entries) ≡ none → longer k p ≡ none → SlotBreaks plan k
-  slot-breaks k m p e z h = (p, e, longer-breaks k p (fit-reached plan fit k m p e) z h)
 
   -- A length that is reached can be reached: each slot before it was given with every bound kept.
   reached-not-cannot : (n : ℕ) → n ≤ LONGEST → (p : Plan) → reach plan n ≡ some p → CannotReach plan n → ⊥
@@ -106,9 +102,8 @@ module _ (t : Timetable) (s : List ℕ) (area : ℕ) (pass : verdictBefore t (re
   -- The slot after a length that was passed over, where the urgent rule can't give it.
   breaks : Admitted t r area → (k : ℕ) → k < r .limit → PassedFirst (suc k) 0 plan → (q : Plan) → reach plan k ≡ some q → longer k q ≡ none → SlotBreaks plan k
   breaks p k l b q h f =
-      let w = b k (omega arith) in
-      let y : w .0 ≡ q = same-plan (reach plan k) (w .0) q (w .1) h in
-      slot-breaks plan (fit p) k (omega (arith, p .range .limit)) q h (subst (λ (x : Plan). placement (x .entries) ≡ none) y (w .2)) f
+      let m : k ≤ LONGEST = omega (arith, p .range .limit) in
+      (q, h, longer-breaks k q (fit-reached plan (fit p) k m q h) (passed-here k 0 plan q b h) f)
 
   -- A slot that breaks a bound is not given, so no length past it is reached.
   not-past : Admitted t r area → (k n : ℕ) → k < n → n ≤ LONGEST → SlotBreaks plan k → (p : Plan) → reach plan n ≡ some p → ⊥
@@ -243,3 +238,13 @@ module _ (t : Timetable) (s : List ℕ) (area : ℕ) (pass : verdictBefore t (re
 
   pub refused-iff : ForWant (answer t s area) ↔ Wanting
   refused-iff = (refused-to (answer t s area) (gets t s area), refused-from (answer t s area) (gets t s area))
+
+  -- A request that passes gets 0, 9 or 11.
+  passed-to : (a : Answer) → Gets t s area a → (a .number ≡ ACCEPTED) ⊎ ForWant a
+  passed-to a (refused q e l h) = absurd (not-refused q e)
+  passed-to a (accepted e p k l b q h ps f) = inl refl
+  passed-to a (no-slot e p k l b q h f) = inr (inl refl)
+  passed-to a (no-length e p b) = inr (inr refl)
+
+  pub passed-number : (answer t s area .number ≡ ACCEPTED) ⊎ ForWant (answer t s area)
+  passed-number = passed-to (answer t s area) (gets t s area)

@@ -16,7 +16,7 @@ use Rattle.change.specs.declared.Outcome.{Outcome}
 use Rattle.change.specs.Given.{Accepted, Gives, early, schedule, wanting}
 use Rattle.change.specs.Queried.{OwnerGiven, StandingGiven}
 use Rattle.change.specs.Refused.{StagesSay}
-use Rattle.records.proofs.ReadSteps.{request-is}
+use Rattle.records.proofs.ReadSteps.{as-read, read-alike}
 use Rattle.promises.proofs.Kept.{exact, kept-shortfall, one-owner, queries, raising-T, shortest, sound-stays, stages-kept, windows}
 use Rattle.promises.specs.OfCode.{Meets, Serves, start, accepts, refuses, DemandOne, DemandTwo, DemandThree, DeficitMeans, QueriesOfCode, RaisingTOfCode}
 use Rattle.promises.specs.Promises.{QueriesTell, RaisedT, ServesOne, ShortestOf, ShortfallMeans, WindowsKept}
@@ -65,10 +65,10 @@ demand-two = record {
         → r .number ≡ ACCEPTED → Accepted t (read .request) area r out
     so t s area read e r out (early a d x p) n =
         absurd
-        (let k = refusal-number t s (length area) x (subst (λ (y : ReadRequest). StagesSay t y (length area) (Refused x)) (sym (request-is s a d)) p) in
+        (let k = refusal-number t s (length area) x (as-read (λ y. StagesSay t y (length area) (Refused x)) s a d p) in
         omega (arith, k .0, n))
     so t s area read e r out (schedule a d p u v w) n =
-        subst (λ (y : ReadRequest). Accepted t (y .request) area u v) (sym (request-is s a d) ∙ request-is s read e) w
+        read-alike (λ y. Accepted t (y .request) area u v) s a read d e w
     so t s area read e r out (wanting a d p k x w) n = absurd (elim (wanting-number t (a .request) k x w) [ inl z ↦ omega arith | inr z ↦ omega arith ])
 
 -- A controller's history is that of the requests it was sent.

@@ -1,4 +1,4 @@
--- docs/RULES.md 1.4 to 1.8, demands 1 to 3 of the code: of whatever meets the contract of `change` or of a query, and of a controller that is made of such calls.
+-- docs/RULES.md 1.4 to 1.8, demands 1 to 3 and what lab, service screen and desk read, of the code: of whatever meets the contract of `change` or of a query, and of a controller that is made of such calls.
 use lib.ListN.{length}
 use mathlib.Core.Bool.{true}
 use mathlib.Core.List.{List, [], _∷_}
@@ -74,7 +74,7 @@ pub record DemandThree : Type 0 where
   pub shortest : (t : Timetable) (s area : List ℕ) (r : Outcome) (out : List ℕ) → Meets t s area r out → Passes t s (length area)
       → ShortestOf t (readRequest s .request) r
 
--- What the commissioning desk reads: whether a larger T would help, of any two outcomes that meet the contract.
+-- What the commissioning desk reads: whether a larger T may help, of any two outcomes that meet the contract.
 abbrev pub RaisingTOfCode : Type 0
 RaisingTOfCode = (t : Timetable) (s s′ area : List ℕ) (r r′ : Outcome) (out out′ : List ℕ) → Meets t s area r out → Meets t s′ area r′ out′
     → LargerT s s′ → RaisedT (readRequest s .request .limit) r out r′ out′

@@ -87,8 +87,9 @@ Passes t s area = StagesSay t (readRequest s) area Passed
 
 -- 5. For a request that passes the stages before the search. It is accepted with length n exactly if n is at most T and has a cyclic placement, and every
 -- shorter length is passed over. It gets 11 with place T exactly if every length 0 to T is passed over. It gets 9 with place k exactly if k is below T, every
--- length 0 to k is passed over, and whoever gets slot k some bound is broken. And it is refused for want of a schedule, which is 9 or 11, exactly if every length up to T
--- is passed over or can't be reached. (Shuts out: a controller that refuses everything; one that tries length T only; 9 where only slot T would be missed.)
+-- length 0 to k is passed over, and whoever gets slot k some bound is broken. And it is refused for want of a schedule, which is 9 or 11, exactly if every
+-- length up to T is passed over or can't be reached.
+-- (Shuts out: a controller that refuses everything; one that tries length T only; 9 where only slot T would be missed.)
 pub record ShortestOf (t : Timetable) (q : Request) (r : Outcome) : Type 0 where
   pub accepted : (n : ℕ) → ((r .number ≡ ACCEPTED) × (r .timetable .length ≡ n))
       ↔ ((n ≤ q .limit) × HasPlacement (startPlan t q) n × ((m : ℕ) → m < n → PassedOver (startPlan t q) m))
@@ -182,7 +183,7 @@ pub record Figures : Type 0 where
       ≡ (0 ∷ 1 ∷ 2 ∷ 3 ∷ 4 ∷ 5 ∷ 6 ∷ 7 ∷ 8 ∷ 9 ∷ 10 ∷ 11 ∷ [])
   pub limits : (IDS ∷ LONGEST ∷ WHOLE ∷ AREA ∷ LARGEST-BOUND ∷ LARGEST-K ∷ LAST-SLOT ∷ IDLE ∷ []) ≡ (32 ∷ 64 ∷ 256 ∷ 231 ∷ 8 ∷ 8 ∷ 281474976710655 ∷ 255 ∷ [])
 
--- The request s, and the same request with a larger T, s′: both are read, and they ask for the same slot and the same listing.
+-- The request s, and s′, the same request with a T as large or larger: both are read, and they ask for the same slot and the same listing.
 pub record LargerT (s s′ : List ℕ) : Type 0 where
   pub read : readRequest s .reading ≡ Whole
   pub read′ : readRequest s′ .reading ≡ Whole
@@ -199,9 +200,11 @@ pub record RaisedT (limit : ℕ) (r : Outcome) (out : List ℕ) (r′ : Outcome)
   pub accepted : r .number ≡ ACCEPTED → (r′ ≡ r) × (out′ ≡ out)
   -- so is a refusal before the search
   pub before : r .number ≢ SLOT-MISSED → r .number ≢ ACCEPTED → r .number ≢ LENGTHS-EXHAUSTED → (r′ ≡ r) × (out′ ≡ out)
-  -- after an 11 raising T may help: what is accepted then has a length above T
+  -- after an 11 raising T may help: the request is accepted, or gets 9 or 11
+  pub again : r .number ≡ LENGTHS-EXHAUSTED → (r′ .number ≡ ACCEPTED) ⊎ (r′ .number ≡ SLOT-MISSED) ⊎ (r′ .number ≡ LENGTHS-EXHAUSTED)
+  -- what is accepted then has a length above T
   pub longer : r .number ≡ LENGTHS-EXHAUSTED → r′ .number ≡ ACCEPTED → limit < r′ .timetable .length
-  -- and if a slot is missed then, it is none before T
+  -- and a slot that is missed then is none before T
   pub later : r .number ≡ LENGTHS-EXHAUSTED → r′ .number ≡ SLOT-MISSED → limit ≤ r′ .place
 
 -- So for every timetable, request and area.

@@ -107,6 +107,13 @@ request-is s x (no-listing a b c) =
 request-is s x (whole a b c) =
     rw (number-is s 0 1 8 LAST-SLOT _ a, readRequest, number-is s 11 2 1 LONGEST _ b, listing-is s (length s) (length s) c (omega arith))
 
+-- What holds of a reading of the bytes holds of what reading gives, and of every other.
+pub as-read : (P : ReadRequest → Type 0) (s : List ℕ) (x : ReadRequest) → RequestRead s x → P x → P (readRequest s)
+as-read P s x e = subst P (sym (request-is s x e))
+
+pub read-alike : (P : ReadRequest → Type 0) (s : List ℕ) (x y : ReadRequest) → RequestRead s x → RequestRead s y → P x → P y
+read-alike P s x y d e p = subst P (request-is s y e) (as-read P s x d p)
+
 -- A request is read so.
 pub request-read : (s : List ℕ) → RequestRead s (readRequest s)
 request-read s = let r = from-slot (slotField s 0) (number-read s 0 1 8 LAST-SLOT) in subst (RequestRead s) (sym (request-is s _ (r .1))) (r .1)

@@ -1,8 +1,8 @@
 -- The search of lengths ends as it says: at the first length with a placement, at a slot that cannot be given, or past the last length.
--- So it does not look ahead to T: one that came to no end at T ends alike with a larger one. By induction on the lengths that remain. Assumes nothing.
+-- And it does not look ahead to T: one that is not exhausted ends alike with a larger T. By induction on the lengths that remain. Assumes nothing.
 use mathlib.Core.List.{List}
 use mathlib.Core.Option.{Option, none, some}
-use mathlib.Core.Path.{_≡_, refl, sym, ap, _∙_}
+use mathlib.Core.Path.{_≡_, refl, sym, ap, _∙_, subst}
 use native.Mathlib.Nat.{add-zero}
 use native.Mathlib.Omega.{arith}
 use Prim.Native.Nat.{ℕ, zero, suc, _+_, _≤_, _<_}
@@ -26,6 +26,33 @@ pub data Ended (left n : ℕ) (plan : Plan) (s : Searched) : Type 0 where
       → s ≡ record { ending = Missed (n + k); tries = suc k; plan = p } → Ended left n plan s
   exhausted : PassedFirst (suc left) n plan → (p : Plan) → s ≡ record { ending = Exhausted (n + left); tries = suc left; plan = p }
       → Ended left n plan s
+
+-- ---- one length
+
+module _ (n : ℕ) (plan : Plan) where
+  -- A length with a placement ends the search.
+  pub search-found : (left : ℕ) (ps : List Place) → placement (plan .entries) ≡ some ps → searchFrom left n plan ≡ ended (Found n) (placed plan ps)
+  unfolding searchFrom
+  search-found zero ps h = rw (h, searchFrom)
+  search-found (suc left) ps h = rw (h, searchFrom)
+
+  -- So does the last.
+  pub search-exhausted : placement (plan .entries) ≡ none → searchFrom 0 n plan ≡ ended (Exhausted n) plan
+  unfolding searchFrom
+  search-exhausted h = rw (h, searchFrom)
+
+  -- And a slot that cannot be given.
+  pub search-missed : (left : ℕ) → placement (plan .entries) ≡ none → longer n plan ≡ none → searchFrom (suc left) n plan ≡ ended (Missed n) plan
+  unfolding searchFrom
+  search-missed left h m = rw (h, searchFrom) (rw m)
+
+  -- Otherwise the length is passed over.
+  pub search-on : (left : ℕ) (next : Plan) → placement (plan .entries) ≡ none → longer n plan ≡ some next
+      → searchFrom (suc left) n plan ≡ passed (searchFrom left (suc n) next)
+  unfolding searchFrom
+  search-on left next h m = rw (h, searchFrom) (rw m)
+
+-- ---- how it ends
 
 -- One slot more, and then k.
 reach-suc : (k n : ℕ) (plan next : Plan) → longer n plan ≡ some next → reachFrom (suc k) n plan ≡ reachFrom k (suc n) next
@@ -96,56 +123,47 @@ found-here left n plan ps e =
 
 -- Every search ends in one of the three ways.
 pub search-ends : (left n : ℕ) (plan : Plan) → Ended left n plan (searchFrom left n plan)
-unfolding searchFrom ended reachFrom
+unfolding ended reachFrom
 search-ends zero n plan = at (placement (plan .entries)) refl
   where
-    at : (o : Option (List Place)) → placement (plan .entries) ≡ o
-        → Ended zero n plan (searchFrom zero n plan)
-    at none e = rw (e, searchFrom) (exhausted (passed-one n plan e) plan (rw add-zero))
-    at (some ps) e = rw (e, searchFrom) (found-here zero n plan ps e)
+    at : (o : Option (List Place)) → placement (plan .entries) ≡ o → Ended zero n plan (searchFrom zero n plan)
+    at none e = rw (search-exhausted n plan e) (exhausted (passed-one n plan e) plan (rw add-zero))
+    at (some ps) e = rw (search-found n plan zero ps e) (found-here zero n plan ps e)
 search-ends (suc left) n plan = at (placement (plan .entries)) refl (longer n plan) refl (λ next. search-ends left (suc n) next)
   where
     at : (o : Option (List Place)) → placement (plan .entries) ≡ o → (q : Option Plan) → longer n plan ≡ q
         → ((next : Plan) → Ended left (suc n) next (searchFrom left (suc n) next))
         → Ended (suc left) n plan (searchFrom (suc left) n plan)
-    at none e none f ih = rw (e, searchFrom, f) (missed zero (omega arith) (passed-one n plan e) plan refl (rw add-zero f) (rw add-zero))
-    at none e (some next) f ih = rw (e, searchFrom, f) (ended-suc left n plan next (searchFrom left (suc n) next) e f (ih next))
-    at (some ps) e q f ih = rw (e, searchFrom) (found-here (suc left) n plan ps e)
+    at none e none f ih = rw (search-missed n plan left e f) (missed zero (omega arith) (passed-one n plan e) plan refl (rw add-zero f) (rw add-zero))
+    at none e (some next) f ih = rw (search-on n plan left next e f) (ended-suc left n plan next (searchFrom left (suc n) next) e f (ih next))
+    at (some ps) e q f ih = rw (search-found n plan (suc left) ps e) (found-here (suc left) n plan ps e)
+
+-- Where length k was passed over, rule 4 fails at the plan that it reaches.
+pub passed-here : (k n : ℕ) (plan p : Plan) → PassedFirst (suc k) n plan → reachFrom k n plan ≡ some p → placement (p .entries) ≡ none
+passed-here k n plan p b h =
+    let w = b k (omega arith) in
+    let e : w .0 ≡ p = cc (w .1) in
+    subst (λ (q : Plan). placement (q .entries) ≡ none) e (w .2)
 
 -- ---- a larger T
 
--- The search at a length with a placement, at a slot that is missed, and where one more slot is given.
-search-found : (left n : ℕ) (plan : Plan) (ps : List Place) → placement (plan .entries) ≡ some ps → searchFrom left n plan ≡ ended (Found n) (placed plan ps)
-unfolding searchFrom
-search-found zero n plan ps e = rw (e, searchFrom)
-search-found (suc left) n plan ps e = rw (e, searchFrom)
-
-search-missed : (left n : ℕ) (plan : Plan) → placement (plan .entries) ≡ none → longer n plan ≡ none → searchFrom (suc left) n plan ≡ ended (Missed n) plan
-unfolding searchFrom
-search-missed left n plan e f = rw (e, searchFrom, f)
-
-search-passed : (left n : ℕ) (plan next : Plan) → placement (plan .entries) ≡ none → longer n plan ≡ some next
-    → searchFrom (suc left) n plan ≡ passed (searchFrom left (suc n) next)
-unfolding searchFrom
-search-passed left n plan next e f = rw (e, searchFrom, f)
-
--- A search that did not come to its last length in vain ends alike if there are more.
+-- A search that is not exhausted ends alike if there are more lengths.
 pub search-raised : (left more n : ℕ) (plan : Plan) → left ≤ more → ((m : ℕ) → searchFrom left n plan .ending ≡ Exhausted m → ⊥)
     → searchFrom more n plan ≡ searchFrom left n plan
-unfolding searchFrom ended passed
+unfolding ended passed
 search-raised zero more n plan l h = at (placement (plan .entries)) refl
   where
     at : (o : Option (List Place)) → placement (plan .entries) ≡ o → searchFrom more n plan ≡ searchFrom zero n plan
-    at none e = absurd (h n (rw (e, searchFrom)))
-    at (some ps) e = search-found more n plan ps e ∙ sym (search-found zero n plan ps e)
+    at none e = absurd (h n (ap (λ (x : Searched). x .ending) (search-exhausted n plan e)))
+    at (some ps) e = search-found n plan more ps e ∙ sym (search-found n plan zero ps e)
 search-raised (suc left) zero n plan l h = absurd (omega arith)
 search-raised (suc left) (suc more) n plan l h = at (placement (plan .entries)) refl (longer n plan) refl (λ next. search-raised left more (suc n) next (omega arith))
   where
     at : (o : Option (List Place)) → placement (plan .entries) ≡ o → (q : Option Plan) → longer n plan ≡ q
         → ((next : Plan) → ((m : ℕ) → searchFrom left (suc n) next .ending ≡ Exhausted m → ⊥) → searchFrom more (suc n) next ≡ searchFrom left (suc n) next)
         → searchFrom (suc more) n plan ≡ searchFrom (suc left) n plan
-    at (some ps) e q f ih = search-found (suc more) n plan ps e ∙ sym (search-found (suc left) n plan ps e)
-    at none e none f ih = search-missed more n plan e f ∙ sym (search-missed left n plan e f)
+    at (some ps) e q f ih = search-found n plan (suc more) ps e ∙ sym (search-found n plan (suc left) ps e)
+    at none e none f ih = search-missed n plan more e f ∙ sym (search-missed n plan left e f)
     at none e (some next) f ih =
-        let p = search-passed left n plan next e f in
-        search-passed more n plan next e f ∙ ap passed (ih next (λ m z. h m (ap (λ (x : Searched). x .ending) p ∙ z))) ∙ sym p
+        let p = search-on n plan left next e f in
+        search-on n plan more next e f ∙ ap passed (ih next (λ m z. h m (ap (λ (x : Searched). x .ending) p ∙ z))) ∙ sym p

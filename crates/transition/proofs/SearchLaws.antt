@@ -7,7 +7,7 @@ use mathlib.Core.Path.{_≡_, refl, sym, ap, ap₂, _∙_, subst}
 use native.Mathlib.Nat.{sub-zero}
 use native.Mathlib.Numerals.{add-one}
 use native.Mathlib.Omega.{arith}
-use Prim.Native.Nat.{ℕ, zero, suc, _+_, _-_, _≤_}
+use Prim.Native.Nat.{ℕ, suc, _+_, _-_, _≤_}
 use Rattle.placement.specs.declared.Placed.{Placed}
 use Rattle.placement.specs.Placed.{placedOf}
 use Rattle.placement.specs.Placement.{Place, placement, settle}
@@ -15,6 +15,7 @@ use Rattle.slots.proofs.Below.{true-false}
 use Rattle.slots.specs.Limits.{IDS}
 use Rattle.timetable.proofs.Sound.{ranged-from, ranged-is}
 use Rattle.timetable.specs.declared.Entry.{Entry}
+use Rattle.transition.proofs.Search.{search-exhausted, search-found, search-missed, search-on}
 use Rattle.transition.proofs.Plans.{Step, Longer, longer-told, length-over, over-at, over-ranged}
 use Rattle.transition.specs.Coded.{nextOf, after, Ready}
 use Rattle.transition.specs.declared.Ending.{Ending}
@@ -59,30 +60,7 @@ module _ (plan : Plan) (r : Next) where
   given-none none h g = refl
   given-none (some next) h g = absurd (true-false (ap (λ (x : Next). x .given) h) g)
 
--- ---- one length
-
-module _ (n : ℕ) (plan : Plan) where
-  -- A length with a placement ends the search.
-  search-found : (left : ℕ) (ps : List Place) → placement (plan .entries) ≡ some ps → searchFrom left n plan ≡ ended (Found n) (placed plan ps)
-  unfolding searchFrom
-  search-found zero ps h = rw (h, searchFrom)
-  search-found (suc left) ps h = rw (h, searchFrom)
-
-  -- So does the last.
-  search-exhausted : placement (plan .entries) ≡ none → searchFrom 0 n plan ≡ ended (Exhausted n) plan
-  unfolding searchFrom
-  search-exhausted h = rw (h, searchFrom)
-
-  -- And a slot that cannot be given.
-  search-missed : (left : ℕ) → placement (plan .entries) ≡ none → longer n plan ≡ none → searchFrom (suc left) n plan ≡ ended (Missed n) plan
-  unfolding searchFrom
-  search-missed left h m = rw (h, searchFrom) (rw m)
-
-  -- Otherwise the length is passed over.
-  search-on : (left : ℕ) (next : Plan) → placement (plan .entries) ≡ none → longer n plan ≡ some next
-      → searchFrom (suc left) n plan ≡ passed (searchFrom left (suc n) next)
-  unfolding searchFrom
-  search-on left next h m = rw (h, searchFrom) (rw m)
+-- ---- the lengths before
 
 -- A length that was passed over counts among those before.
 after-passed : (n : ℕ) (s : Searched) → after n (passed s) ≡ after (suc n) s

@@ -1,4 +1,5 @@
--- docs/RULES.md 5.2 and 5.3, demand 3's words about lengths: which are reached, which are passed over, which can't be reached, and which were searched.
+-- docs/RULES.md 5.2 and 5.3, demand 3's words about lengths: which are reached, which are passed over, which can't be reached, and which were searched;
+-- and about slots: which breaks a bound.
 use mathlib.Core.Bool.{Bool, true, false, _&&_}
 use mathlib.Core.List.{List}
 use mathlib.Core.Option.{Option, none, some}

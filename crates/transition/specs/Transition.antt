@@ -1,4 +1,4 @@
--- docs/RULES.md 4.2 and 4.3, rules 2 and 3: the search of lengths, one transition slot after the other.
+-- docs/RULES.md 4.2, 4.3, 4.6 and 4.7, rules 2 and 3: the search of lengths, one transition slot after the other.
 use lib.Dec.{eqb, ltb}
 use lib.ListN.{set}
 use mathlib.Core.Bool.{Bool, true, false, cond, not, _||_}
