@@ -15,27 +15,56 @@ const NUMBERS: usize = 12;
 const KINDS: [&str; 4] = ["change", "owner", "standing", "empty"];
 /// The classes of transition lengths.
 const LENGTHS: [&str; 4] = ["0", "1", "2 to 8", "over 8"];
-/// The classes of refusals for want of a schedule by their place, and of 11 by what T 64 brings.
-const WANTS: [&str; 8] = [
-    "9 at place 0",
-    "9 at a place above 0",
-    "11 at T 0",
-    "11 at T 1 to 63",
-    "11 at T 64",
-    "11, accepted with T 64",
-    "11, refused 9 with T 64",
-    "11, refused 11 with T 64",
-];
+/// The classes of refusals for want of a schedule by their place, which is T for 11.
+const WANTS: [&str; 5] =
+    ["9 at place 0", "9 at a place above 0", "11 at T 0", "11 at T 1 to 63", "11 at T 64"];
+/// The classes of 11 by what T 64 brings.
+const WITH_LARGEST: [&str; 3] = ["accepted", "refused 9", "refused 11"];
 /// The classes of requests that are put again with a larger T alone, by both answers.
 const AGAIN: [&str; 4] = ["11, then 0", "11, then 9", "11, then 11", "9, then 9"];
 /// The classes of area sizes.
 const AREAS: [&str; 5] = ["0", "1 to 229", "230", "231", "over 231"];
 
+/// Refusals for want of a schedule by their place, and each 11 also by what T 64 brings.
+#[derive(Debug, Default)]
+pub struct Wants {
+    by_place: [u64; WANTS.len()],
+    with_largest: [u64; WITH_LARGEST.len()],
+}
+
+impl Wants {
+    /// A request's refusal is counted if it is for want of a schedule.
+    fn count(&mut self, timetable: &Timetable, request: &[u8], (number, place): (u8, u64)) {
+        let Some(class) = want_class(number, place) else { return };
+        add(&mut self.by_place, class);
+        if number == LENGTHS_EXHAUSTED {
+            let largest = with_longest(request, LONGEST_TRANSITION as u8);
+            let outcome = change(timetable, &largest, &mut [0; AREA]);
+            add(&mut self.with_largest, with_largest_class(outcome.number));
+        }
+    }
+
+    /// The least that some class has.
+    pub fn least(&self) -> u64 {
+        let all = self.by_place.iter().chain(&self.with_largest);
+        all.copied().min().unwrap_or(0)
+    }
+
+    /// The tables by place and by what T 64 brings.
+    fn tables(&self) -> String {
+        let tables = [
+            class_table("For want of a schedule", &WANTS, &self.by_place),
+            class_table("11 by what T 64 brings", &WITH_LARGEST, &self.with_largest),
+        ];
+        tables.join("\n")
+    }
+}
+
 /// The numbers, refusals for want of a schedule, requests put again and lengths of a stream.
 #[derive(Default)]
 pub struct RequestCounts {
     pub numbers: [u64; NUMBERS],
-    pub wants: [u64; WANTS.len()],
+    pub wants: Wants,
     pub again: [u64; AGAIN.len()],
     pub lengths: [u64; LENGTHS.len()],
 }
@@ -49,9 +78,10 @@ impl RequestCounts {
         for request in requests {
             let outcome = change(&timetable, &request, &mut [0; AREA]);
             add(&mut counts.numbers, usize::from(outcome.number));
-            count_want(&mut counts.wants, &timetable, &request, (outcome.number, outcome.place));
-            if raises(&before.0, &request) {
-                add(&mut counts.again, again_class(before.1, outcome.number));
+            counts.wants.count(&timetable, &request, (outcome.number, outcome.place));
+            let again = raises(&before.0, &request).then(|| again_class(before.1, outcome.number));
+            if let Some(class) = again.flatten() {
+                add(&mut counts.again, class);
             }
             if outcome.number == ACCEPTED {
                 add(&mut counts.lengths, length_class(outcome.timetable.length));
@@ -67,7 +97,7 @@ impl RequestCounts {
         let numbers: Vec<String> = (0..NUMBERS).map(|number| number.to_string()).collect();
         let tables = [
             class_table("Number", &numbers, &self.numbers),
-            class_table("For want of a schedule", &WANTS, &self.wants),
+            self.wants.tables(),
             class_table("Again with a larger T", &AGAIN, &self.again),
             class_table("Transition length", &LENGTHS, &self.lengths),
         ];
@@ -81,7 +111,7 @@ impl RequestCounts {
 pub struct ProbeCounts {
     pub numbers: [[u64; NUMBERS]; KINDS.len()],
     pub bad: u64,
-    pub wants: [u64; WANTS.len()],
+    pub wants: Wants,
     pub lengths: [u64; LENGTHS.len()],
     pub areas: [u64; AREAS.len()],
     pub origins: Vec<OriginCount>,
@@ -113,29 +143,32 @@ impl ProbeCounts {
     /// One probe is counted by its reply, and by its image where it has one.
     fn count(&mut self, made: &Made) {
         let probe = read_probe(&made.content);
-        match put(&probe) {
-            Reply::Change { number, place, image, area, .. } => {
-                add(&mut self.numbers[0], usize::from(number));
-                add(&mut self.areas, area_class(area.len()));
-                if let Some(left) = timetable_of(&image) {
-                    self.count_end(&left, request_in(&probe), (number, place));
-                }
-            }
+        let reply = put(&probe);
+        match reply {
+            Reply::Change { number, .. } => add(&mut self.numbers[0], usize::from(number)),
             Reply::Owner { number, .. } => add(&mut self.numbers[1], usize::from(number)),
             Reply::Standing { number, .. } => add(&mut self.numbers[2], usize::from(number)),
             Reply::Empty { number, .. } => add(&mut self.numbers[3], usize::from(number)),
             Reply::Bad => self.bad += 1,
         }
+        self.count_change(&probe, &reply);
         if let Some(image) = image_in(&probe) {
             self.count_origin(made.origin, image);
         }
     }
 
-    /// A change is counted by the length of its acceptance, or by its want of a schedule.
-    fn count_end(&mut self, left: &Timetable, request: &[u8], (number, place): (u8, u64)) {
-        match number {
+    /// A change is counted by its area, and by its acceptance's length or its want of a schedule.
+    fn count_change(&mut self, probe: &Probe, reply: &Reply) {
+        let (Probe::Change { request, .. }, Reply::Change { number, place, image, area, .. }) =
+            (probe, reply)
+        else {
+            return;
+        };
+        add(&mut self.areas, area_class(area.len()));
+        let Some(left) = timetable_of(image) else { return };
+        match *number {
             ACCEPTED => add(&mut self.lengths, length_class(left.length)),
-            _ => count_want(&mut self.wants, left, request, (number, place)),
+            number => self.wants.count(&left, request, (number, *place)),
         }
     }
 
@@ -153,7 +186,7 @@ impl ProbeCounts {
     pub fn tables(&self) -> String {
         let tables = [
             self.number_table(),
-            class_table("For want of a schedule", &WANTS, &self.wants),
+            self.wants.tables(),
             class_table("Transition length", &LENGTHS, &self.lengths),
             class_table("Area", &AREAS, &self.areas),
             self.origin_table(),
@@ -212,39 +245,9 @@ fn image_in(probe: &Probe) -> Option<&[u8]> {
     }
 }
 
-/// The request that a probe has.
-fn request_in(probe: &Probe) -> &[u8] {
-    match probe {
-        Probe::Change { request, .. } => request,
-        _ => &[],
-    }
-}
-
 /// One more of a class.
 fn add(counts: &mut [u64], class: usize) {
-    if let Some(count) = counts.get_mut(class) {
-        *count += 1;
-    }
-}
-
-/// A refusal for want of a schedule is counted by its place, and an 11 by what T 64 brings.
-fn count_want(
-    counts: &mut [u64],
-    timetable: &Timetable,
-    request: &[u8],
-    (number, place): (u8, u64),
-) {
-    let above = usize::from(place > 0);
-    match number {
-        SLOT_MISSED => add(counts, above),
-        LENGTHS_EXHAUSTED => {
-            let largest = with_longest(request, LONGEST_TRANSITION as u8);
-            let raised = change(timetable, &largest, &mut [0; AREA]).number;
-            add(counts, 2 + above + usize::from(largest == request));
-            add(counts, 5 + again_class(number, raised));
-        }
-        _ => (),
-    }
+    counts[class] += 1;
 }
 
 /// A request differs from the one before in a larger T alone.
@@ -258,13 +261,38 @@ fn raises(before: &[u8], request: &[u8]) -> bool {
 }
 
 /// The class of a request that is put again: after 11 the answer 0, 9 or 11; after 9 the answer 9.
-fn again_class(before: u8, number: u8) -> usize {
+/// There is no other then (docs/RULES.md 1.8), and after all else no class.
+fn again_class(before: u8, number: u8) -> Option<usize> {
     match (before, number) {
-        (LENGTHS_EXHAUSTED, ACCEPTED) => 0,
-        (LENGTHS_EXHAUSTED, SLOT_MISSED) => 1,
-        (LENGTHS_EXHAUSTED, LENGTHS_EXHAUSTED) => 2,
-        (SLOT_MISSED, SLOT_MISSED) => 3,
-        _ => AGAIN.len(),
+        (LENGTHS_EXHAUSTED, ACCEPTED) => Some(0),
+        (LENGTHS_EXHAUSTED, SLOT_MISSED) => Some(1),
+        (LENGTHS_EXHAUSTED, LENGTHS_EXHAUSTED) => Some(2),
+        (SLOT_MISSED, SLOT_MISSED) => Some(3),
+        (LENGTHS_EXHAUSTED | SLOT_MISSED, _) => unreachable!("{before}, then {number}"),
+        _ => None,
+    }
+}
+
+/// The class of a refusal for want of a schedule by its place: 9 at 0 or above; 11 at T 0, 1 to 63,
+/// or 64. For other answers there is none.
+fn want_class(number: u8, place: u64) -> Option<usize> {
+    match (number, place) {
+        (SLOT_MISSED, 0) => Some(0),
+        (SLOT_MISSED, _) => Some(1),
+        (LENGTHS_EXHAUSTED, 0) => Some(2),
+        (LENGTHS_EXHAUSTED, 1..=63) => Some(3),
+        (LENGTHS_EXHAUSTED, _) => Some(4),
+        _ => None,
+    }
+}
+
+/// The class of an 11 by the number that T 64 brings: 0, 9 or 11; no other (docs/RULES.md 1.8).
+fn with_largest_class(number: u8) -> usize {
+    match number {
+        ACCEPTED => 0,
+        SLOT_MISSED => 1,
+        LENGTHS_EXHAUSTED => 2,
+        _ => unreachable!("11, then {number}"),
     }
 }
 

@@ -2,14 +2,14 @@
 
 use crate::cases::{all_listed, record, request_a, request_b, request_d, request_j_overfull};
 use crate::change::{listed, Outcome, AREA};
-use crate::figures::{aligned, code, list, list_and, list_with, thousands, Figures};
+use crate::figures::{aligned, code, hexadecimal, list, list_and, list_with, thousands, Figures};
 use crate::frames::{frame, LONGEST_FRAME, TAG_FRAME};
 use crate::numbers;
 use crate::probe::{image_of, IMAGE};
 use crate::queries::{owner_query, standing_query};
 use crate::records::{
-    longest_field, share_field, slot_field, write_answer, Request, HEAD, TAG_LENGTH, TAG_LONGEST,
-    TAG_OFFSET, TAG_OWNERS, TAG_SHARE, TAG_SLOT,
+    longest_field, share_field, slot_field, with_longest, write_answer, Request, HEAD, TAG_LENGTH,
+    TAG_LONGEST, TAG_OFFSET, TAG_OWNERS, TAG_SHARE, TAG_SLOT,
 };
 use crate::run::Run;
 use crate::slots::{last_offset, room};
@@ -19,11 +19,15 @@ use crate::timetable::{
 };
 use crate::worked::{
     anew, answer_b, answer_e, answered, asked, asked_a, asked_b, behind, broken, by_longest,
-    bytes_b, bytes_e, ids, left_and_returned, lines_of, mark, nine_before, nine_today, offsets,
-    only_owners, run_a, run_b, share, Waiting, DETECTOR, LAST_SHOWN, PUMP_LOOP, VALVE,
+    bytes_b, bytes_e, ids, left_and_returned, lines_of, mark, nine_before, nine_today,
+    nine_without_longest, offsets, only_owners, run_a, run_b, share, Waiting, DETECTOR, LAST_SHOWN,
+    PUMP_LOOP, VALVE,
 };
 use std::mem::size_of_val;
 use std::ops::Range;
+
+/// How long a slot lasts, in ms (docs/RULES.md 1.2).
+const SLOT_MS: usize = 2;
 
 /// The figures of each section.
 pub fn add_to(figures: &mut Figures) {
@@ -51,6 +55,8 @@ pub fn add_to(figures: &mut Figures) {
     add_stages_refused(figures);
     add_search_refused(figures);
     add_raising(figures);
+    add_cost(figures);
+    add_bytes_asked(figures);
     add_raising_c(figures);
     add_raising_e(figures);
     add_slots_e(figures);
@@ -61,13 +67,15 @@ pub fn add_to(figures: &mut Figures) {
     add_queries(figures);
     add_line(figures);
     add_earlier(figures);
+    add_undecided(figures);
 }
 
 /// The title, and the first entry.
 fn add_head(figures: &mut Figures) {
     let title = "Dictionary of figures";
     let first = Timetable::empty().request_slot;
-    figures.phrase(title, format!("counts them from {first} at its start"));
+    let counts = format!("the controller counts them from {first} at its start");
+    figures.phrase(title, format!("Slots last {SLOT_MS} ms; {counts}"));
     let names = format!("{PUMP_LOOP} the pump loop, {DETECTOR} the detector, {VALVE} the valve");
     figures.phrase(title, format!("ids in A to F are {names}"));
     let section = "Shortfall, called \"deficit\" in the lab's column";
@@ -341,12 +349,9 @@ fn add_missed(figures: &mut Figures, section: &str) {
     figures.phrase(section, "leads from length n to length n + 1");
     let is = format!("transition slot {number} is slot {}", missed.slot);
     figures.cell(section, "transition slot", format!("E, at slot {}: {is}", asked.slot));
-    let rooms = |id: &u8| room_at(&asked.listing, missed, *id);
-    let least = ids(&asked.listing).iter().map(rooms).min().unwrap_or(0);
-    let with_least: Vec<u8> =
-        ids(&asked.listing).into_iter().filter(|id| rooms(id) == least).collect();
+    let (least, urgent) = least_room(&asked.listing, missed);
     figures.phrase(section, format!("more than one listed partition has room {least} there"));
-    let have = format!("where ids {} have room {least}", list_and(with_least));
+    let have = format!("where ids {} have room {least}", list_and(urgent));
     figures.cell(section, "missed", format!("E: transition slot {number}, {have}"));
 }
 
@@ -582,7 +587,8 @@ fn add_numbers(figures: &mut Figures) {
     figures.phrase(section, format!("first passes {CYCLE} |"));
     let behind = format!("shortfall at the request slot not below {CYCLE} x new R");
     figures.phrase(section, format!("| {SHORTFALL_TOO_LARGE} | {behind}"));
-    figures.phrase(section, format!("| {SLOT_MISSED} | a transition slot is missed, no length"));
+    let missed = "a transition slot below T is missed, no length up to it gives a schedule";
+    figures.phrase(section, format!("| {SLOT_MISSED} | {missed} |"));
     let first = waiting_e()[0].slot - asked_e().slot;
     figures.phrase(section, format!("that slot, counted from {first} |"));
     figures.phrase(section, format!("| {NOT_LISTED} | id not listed (queries) | 0 |"));
@@ -707,8 +713,7 @@ fn add_search_refused(figures: &mut Figures) {
     let vain = format!("lengths 0 to T were searched in vain {tries}: **raise T**");
     figures.phrase(section, format!("| {LENGTHS_EXHAUSTED} | the place is T, and {vain}"));
     figures.phrase(section, format!("to {most} at most. What is accepted"));
-    figures.phrase(section, format!("A {SLOT_MISSED} may come instead"));
-    figures.phrase(section, format!("at T it is {LENGTHS_EXHAUSTED} also"));
+    figures.phrase(section, format!("and may find it missed ({})", answer_e(around_e().1).number));
     figures.phrase(section, format!("With T {most} already, do as with {SLOT_MISSED} |"));
     let (last, next) = around_e();
     let of_c = format!("C with T {}: {}", asked_c().longest, in_vain(&answer_c()));
@@ -775,7 +780,7 @@ fn in_turn<T: PartialEq>(values: impl Iterator<Item = T>) -> Vec<T> {
 }
 
 /// The section on raising T.
-const RAISING: &str = "Whether a larger T would help";
+const RAISING: &str = "Whether a larger T may help";
 
 /// A partition of the cases by its name.
 fn name(id: u8) -> &'static str {
@@ -809,22 +814,67 @@ fn answers_by_t(rows: &[(u8, u8, Outcome)]) -> String {
     answers("T", &rows.iter().map(row).collect::<Vec<_>>())
 }
 
-/// "Whether a larger T would help": the table of what the desk does.
+/// "Whether a larger T may help": the table of what the desk does.
 fn add_raising(figures: &mut Figures) {
     use numbers::{ACCEPTED, LENGTHS_EXHAUSTED as EXHAUSTED, SLOT_MISSED as MISSED};
     let most = LONGEST_TRANSITION as u8;
-    figures.phrase(RAISING, format!("What a {MISSED} and an {EXHAUSTED} tell the commissioning"));
+    let may = format!("After an {EXHAUSTED} a larger T may help, after a {MISSED} it can't");
+    figures.phrase(RAISING, may);
     figures.phrase(RAISING, format!("| {EXHAUSTED}, T below {most} |"));
-    figures.phrase(RAISING, format!("may get {MISSED}, at a place not below the old T"));
-    figures.phrase(RAISING, format!("may get {EXHAUSTED} again"));
-    let refused = outcome(&Run::empty(), &record(0, most + 1, &[])).number;
-    let above = format!("can't be asked: a T above {most} is refused {refused}");
+    let missed = format!("gets {MISSED}, at a place not below the old T");
+    figures.phrase(RAISING, format!("{missed}, or {EXHAUSTED} again"));
+    let above = format!("can't be asked: a T above {most} is refused {}", refused_above());
     figures.phrase(RAISING, format!("| {EXHAUSTED}, T {most} | {above} | as with {MISSED}."));
     figures.phrase(RAISING, format!("| {MISSED} | gets the same {MISSED}, with the same place"));
-    figures.phrase(RAISING, format!("| {ACCEPTED} | gets the same answer"));
+    use numbers::{ID_NOT_RISING, NOT_SOUND, SHORTFALL_TOO_LARGE, WRONG_FIELD};
+    figures.phrase(RAISING, format!("| {NOT_SOUND} to {SHORTFALL_TOO_LARGE} | gets the same"));
+    figures.phrase(RAISING, format!("{WRONG_FIELD} to {ID_NOT_RISING} aside, where the request"));
+    figures.phrase(RAISING, format!("| {ACCEPTED} | would have got the same answer"));
+    let larger = asked_b().longest + 1;
+    let again = outcome(&run_b(), &with_longest(&bytes_b(), larger)).number;
+    figures.phrase(RAISING, format!("(B sent again with T {larger}: {again})"));
 }
 
-/// "Whether a larger T would help": case C, and case B behind it.
+/// The number that refuses a T above the largest.
+fn refused_above() -> u8 {
+    outcome(&Run::empty(), &record(0, LONGEST_TRANSITION as u8 + 1, &[])).number
+}
+
+/// "Whether a larger T may help": what is refused before the base, and how long that may be.
+fn add_cost(figures: &mut Figures) {
+    let run = run_b();
+    let before = run.present().base - 1;
+    let request = outcome(&run, &request_b(before, LONGEST_TRANSITION as u8)).number;
+    let standing = standing_query(&run.present(), VALVE, before).0;
+    let refused = list(in_turn([request, standing].into_iter()));
+    figures.phrase(RAISING, format!("before its base is refused {refused};"));
+    let lasts = LONGEST_TRANSITION * SLOT_MS;
+    figures.phrase(RAISING, format!("the longest, {LONGEST_TRANSITION} slots, takes {lasts} ms"));
+}
+
+/// "Whether a larger T may help": the bytes of what the desk may change, and what is proved.
+fn add_bytes_asked(figures: &mut Figures) {
+    let (b, c) = (bytes_b(), bytes_c());
+    let longest = b.iter().zip(&c).position(|(of_b, of_c)| of_b != of_c).unwrap_or(0);
+    let first = outcome(&Run::empty(), &[]).place;
+    figures.phrase(RAISING, format!("T is byte {longest} of the request, counted from {first}"));
+    figures.phrase(RAISING, format!("a larger number in field {TAG_SLOT:02x}"));
+    figures.phrase(RAISING, format!("field {TAG_SHARE:02x}, at most {LARGEST_BOUND}"));
+    let Share { period, bound } = share(&asked_b().listing, PUMP_LOOP);
+    let field = |short: bool| share_field(PUMP_LOOP, period.trailing_zeros() as u8, bound, short);
+    let (short, full) = (field(true), field(false));
+    let request = [slot_field(0), longest_field(0), short.clone()].concat();
+    let asks = share(&asked(&request).listing, PUMP_LOOP).bound;
+    let head = |field: &[u8]| hexadecimal(&field[..HEAD]);
+    figures.phrase(RAISING, format!("a short field `{} id k`, which asks R {asks}", head(&short)));
+    let grows = frame(&full).len() - frame(&short).len();
+    let full = format!("becomes `{} id k R`", head(&full));
+    figures.phrase(RAISING, format!("{full}, and the frame's length grows by {grows}"));
+    figures.phrase(RAISING, format!("a larger k, at most {LARGEST_EXPONENT}"));
+    figures.phrase(RAISING, format!("for the {} promise", refused_above()));
+}
+
+/// "Whether a larger T may help": case C, and case B behind it.
 fn add_raising_c(figures: &mut Figures) {
     let (slot, rows) = (asked_c().slot, by_longest(&run_a(), |t| request_b(asked_c().slot, t)));
     figures.block("B's listing by T", answers_by_t(&rows));
@@ -841,7 +891,7 @@ fn add_raising_c(figures: &mut Figures) {
     );
 }
 
-/// "Whether a larger T would help": case E by its T.
+/// "Whether a larger T may help": case E by its T.
 fn add_raising_e(figures: &mut Figures) {
     let (asked, (last, next)) = (asked_e(), around_e());
     figures.block("E by T", answers_by_t(&by_t_e()));
@@ -857,8 +907,8 @@ fn add_raising_e(figures: &mut Figures) {
     let ends = format!("the {missed} at T {next} ends that");
     figures.phrase(RAISING, format!("{ends}: place {place} is slot {slot} + {place} = {core}"));
     figures.phrase(RAISING, format!("Slot {core} stood in the way before"));
-    let length = answer_e(last).tries - 1;
-    figures.phrase(RAISING, format!("with T {last} nobody sought a slot behind length {length}"));
+    let ended = format!("the search ended before it looked at transition slot {place}");
+    figures.phrase(RAISING, format!("with T {last} {ended}"));
 }
 
 /// A row for each listed id: a figure of it at each transition slot.
@@ -874,7 +924,7 @@ fn rows_by_id(
     ids(&asked_e().listing).into_iter().map(row).collect()
 }
 
-/// "Whether a larger T would help": the shortfalls and rooms of case E, slot by slot.
+/// "Whether a larger T may help": the shortfalls and rooms of case E, slot by slot.
 fn add_slots_e(figures: &mut Figures) {
     let (asked, waiting) = (asked_e(), waiting_e());
     let numbers = |from: u64| waiting.iter().map(|at| (at.slot - from).to_string()).collect();
@@ -901,13 +951,20 @@ fn room_at(listing: &Listing, at: &Waiting, id: u8) -> u16 {
     room(at.shortfalls[usize::from(id)], share(listing, id))
 }
 
-/// "Whether a larger T would help": who needs each slot of case E.
+/// The least room at a transition slot, and the listed ids that have it.
+fn least_room(listing: &Listing, at: &Waiting) -> (u16, Vec<u8>) {
+    let rooms = |id: &u8| room_at(listing, at, *id);
+    let least = ids(listing).iter().map(rooms).min().unwrap_or(0);
+    (least, ids(listing).into_iter().filter(|id| rooms(id) == least).collect())
+}
+
+/// "Whether a larger T may help": who needs each slot of case E.
 fn add_needed_e(figures: &mut Figures) {
     let (listing, waiting) = (asked_e().listing, waiting_e());
     let missed = &waiting[waiting.len() - 1];
-    let rooms = ids(&listing).into_iter().map(|id| (room_at(&listing, missed, id), id));
-    let none = rooms.clone().map(|(room, _)| room).min().unwrap_or(0);
-    let below = list(in_turn(rooms.clone().map(|(_, id)| limit_of(share(&listing, id)))));
+    let (none, urgent) = least_room(&listing, missed);
+    let below = ids(&listing).into_iter().map(|id| limit_of(share(&listing, id)));
+    let below = list(in_turn(below));
     figures.phrase(RAISING, format!("Why slot {}, by slots", missed.slot));
     figures.phrase(RAISING, format!("has to stay below {below}, and room {none} means"));
     let goes = waiting.iter().filter(|at| !at.owners.is_empty()).map(|at| {
@@ -915,11 +972,11 @@ fn add_needed_e(figures: &mut Figures) {
         format!("slot {} goes to the {owners}", at.slot)
     });
     figures.phrase(RAISING, format!("no choice: {}", list(goes)));
-    let by = rooms.filter(|&(room, _)| room == none).map(|(_, id)| format!("by the {}", name(id)));
+    let by = urgent.into_iter().map(|id| format!("by the {}", name(id)));
     figures.phrase(RAISING, format!("Slot {} is needed {}", missed.slot, list_and(by)));
 }
 
-/// "Whether a larger T would help": what is broken by whoever gets the slot that case E misses.
+/// "Whether a larger T may help": what is broken by whoever gets the slot that case E misses.
 fn add_owners_e(figures: &mut Figures) {
     let (listing, waiting) = (asked_e().listing, waiting_e());
     let Waiting { slot, shortfalls, .. } = &waiting[waiting.len() - 1];
@@ -981,7 +1038,7 @@ fn in_place_of_e() -> Vec<(String, Outcome)> {
     later.chain(larger).chain(smaller).collect()
 }
 
-/// "Whether a larger T would help": what may be asked in place of case E.
+/// "Whether a larger T may help": what may be asked in place of case E.
 fn add_in_place_of_e(figures: &mut Figures) {
     let (Request { slot, listing, .. }, most) = (asked_e(), LONGEST_TRANSITION as u8);
     figures.block("in place of E", answers("in place of E", &in_place_of_e()));
@@ -1002,18 +1059,38 @@ fn request_of(slot: u64, longest: u8, listing: &Listing) -> Vec<u8> {
     record(slot, longest, &listed(listing).map(field).collect::<Vec<_>>())
 }
 
-/// "Whether a larger T would help": case E's listing after case A, where a later slot helps.
+/// "Whether a larger T may help": case E's listing after case A, where a later slot helps.
 fn add_later_slot(figures: &mut Figures) {
     let (run, slot, most) = (run_a(), asked_b().slot, LONGEST_TRANSITION as u8);
     let answer = |slot: u64| outcome(&run, &request_d(slot, most));
     let rows = [slot, slot + 1].map(|slot| (format!("at slot {slot}"), answer(slot)));
     figures.block("E's listing after A", answers("E's listing after A", &rows));
-    let owed = |slot: u64| run.shortfall(DETECTOR, slot);
-    let stands = format!("when the detector stands at {}", owed(slot));
-    figures.phrase(RAISING, format!("gets {} at slot {slot}, {stands}", answer(slot).number));
-    let had = list(run.own_slots(DETECTOR, slot..slot + 1));
-    let then = format!("the detector has had slot {had}, and stands at {}", owed(slot + 1));
-    figures.phrase(RAISING, format!("At slot {} {then}", slot + 1));
+    let Outcome { number, place, .. } = answer(slot);
+    let missed = format!("gets {number} with place {place}: slot {} is missed", slot + place);
+    figures.phrase(RAISING, format!("E's listing at slot {slot} {missed}"));
+    add_needed_later(figures, slot);
+    let asked = asked(&request_d(slot + 1, most));
+    let first = &only_owners(&run, &asked)[0];
+    let owed = first.shortfalls[usize::from(VALVE)];
+    let left = room_at(&asked.listing, first, VALVE);
+    let begins = format!("the valve begins there with {owed} and can wait (room {left})");
+    figures.phrase(RAISING, format!("Asked for at slot {}, {begins}", asked.slot));
+}
+
+/// "Whether a larger T may help": who needs the slots of case E's listing after case A.
+fn add_needed_later(figures: &mut Figures, slot: u64) {
+    let asked = asked(&request_d(slot, LONGEST_TRANSITION as u8));
+    let waiting = only_owners(&run_a(), &asked);
+    let (first, missed) = (&waiting[0], &waiting[waiting.len() - 1]);
+    let owed = |at: &Waiting, id: u8| at.shortfalls[usize::from(id)];
+    let goes = first.owners.iter().map(|&id| format!("the {} ({})", name(id), owed(first, id)));
+    figures.phrase(RAISING, format!("Slot {slot} goes to {}", list(goes)));
+    let by = |id: u8| match run_a().present().lists(id) {
+        true => format!("by the {} ({})", name(id), owed(missed, id)),
+        false => format!("by the {} ({}, listed since slot {slot})", name(id), owed(missed, id)),
+    };
+    let by: Vec<String> = least_room(&asked.listing, missed).1.into_iter().map(by).collect();
+    figures.phrase(RAISING, format!("slot {} is then needed {}", missed.slot, by.join(" and ")));
 }
 
 /// "The queries", after case B.
@@ -1049,6 +1126,8 @@ fn add_line(figures: &mut Figures) {
     let last = format!("{ACCEPTED}, {WRONG_FIELD} to {SLOT_MISSED} and {LENGTHS_EXHAUSTED} do");
     let area = format!("its area has {AREA} bytes, and {NOT_LISTED} is a query's; {last}");
     figures.phrase(section, area);
+    let ids = list_and([OVERFULL, SHORTFALL_TOO_LARGE]);
+    figures.phrase(section, format!("(with {ids} an id, with {LENGTHS_EXHAUSTED} T)"));
     let (exhausted, missed) = around_e();
     let with = format!("E with T {exhausted} and with T {missed}");
     figures.phrase(section, format!("With C between them, and after them {with}"));
@@ -1057,10 +1136,13 @@ fn add_line(figures: &mut Figures) {
     figures.phrase(section, format!("a length above {}", thousands(LONGEST_FRAME)));
 }
 
+/// The section on what changes of the rules moved.
+const EARLIER: &str = "Earlier meanings";
+
 /// "Earlier meanings": what CR 1 moved.
 fn add_earlier(figures: &mut Figures) {
     use numbers::{LENGTHS_EXHAUSTED as EXHAUSTED, SLOT_MISSED as MISSED};
-    let section = "Earlier meanings";
+    let section = EARLIER;
     let (place, _) = nine_before(&answer_c());
     figures.phrase(section, format!("| number {MISSED} | no length up to T gives a schedule"));
     let today = format!("| {MISSED} where a slot is missed, {EXHAUSTED} where all lengths");
@@ -1069,7 +1151,8 @@ fn add_earlier(figures: &mut Figures) {
     figures.phrase(section, format!("| place with {MISSED} | {place} | {today}"));
     figures.phrase(section, format!("Tries with {MISSED} is what it was"));
     figures.phrase(section, format!("Every {MISSED}, old or new, is read exactly"));
-    figures.phrase(section, format!("(field {TAG_LONGEST:02x}; a line does not have it)"));
+    let lacks = format!("the line of a {MISSED} does not have it");
+    figures.phrase(section, format!("(field {TAG_LONGEST:02x}; {lacks})"));
     figures.phrase(section, format!("| A {MISSED} with | It means today"));
     let more = searched_more(&answer_c());
     let all = format!("place {place}, tries T + {more}");
@@ -1079,29 +1162,52 @@ fn add_earlier(figures: &mut Figures) {
     figures.phrase(section, format!("if tries is above {more}; with tries {more} old and new"));
     let new = format!("a place above {place}");
     figures.phrase(section, format!("| {new} | what it says"));
-    figures.phrase(section, format!("is the first with {EXHAUSTED}"));
-    figures.phrase(section, format!("a stream with a number {EXHAUSTED} in it is new"));
-    figures.phrase(section, format!("each {MISSED} tells by the table"));
-    add_nines(figures, section, [all, fewer, new]);
+    add_nines(figures, [all, fewer, new]);
 }
 
 /// "Earlier meanings": a 9 as it was told and what it means today.
-fn add_nines(figures: &mut Figures, section: &str, [all, fewer, new]: [String; 3]) {
-    let most = LONGEST_TRANSITION as u8;
-    let was = |longest: u8, answer: &Outcome| {
-        let (place, tries) = nine_before(answer);
-        let (number, at) = nine_today(longest, (place, tries));
-        format!("{} at {place}, tries {tries} is {number} at {at}", numbers::SLOT_MISSED)
-    };
+fn add_nines(figures: &mut Figures, [all, fewer, new]: [String; 3]) {
+    let (section, most) = (EARLIER, LONGEST_TRANSITION as u8);
     let with = |case: &str, longest: u8, answer: &Outcome| {
-        format!("{case} with T {longest}: {}", was(longest, answer))
+        let (place, tries) = nine_before(answer);
+        let today = nine_today(longest, (place, tries));
+        let today = list(today.map(|(number, at)| format!("{number} at {at}")));
+        let was = format!("{} at {place}, tries {tries}", numbers::SLOT_MISSED);
+        format!("{case} with T {longest}: {was} is {today}")
     };
     let of_c = with("C", asked_c().longest, &answer_c());
     let (last, _) = around_e();
     figures.cell(section, all, format!("{of_c}; {}", with("E", last, &answer_e(last))));
     let of_e = with("E", most, &answer_e(most));
     let next = asked_e().slot + answer_e(most).place;
-    let same = was(most, &outcome(&run_b(), &request_d(next, most)));
-    figures.cell(section, fewer, format!("{of_e}; E's listing at slot {next}: {same}"));
+    let later = format!("E's listing at slot {next}");
+    let same = with(&later, most, &outcome(&run_b(), &request_d(next, most)));
+    figures.cell(section, fewer, format!("{of_e}; {same}"));
     figures.cell(section, new, format!("E with T {most}: {}", in_vain(&answer_e(most))));
+}
+
+/// "Earlier meanings": what can't be decided of a 9, and how old is told from new.
+fn add_undecided(figures: &mut Figures) {
+    use numbers::{LENGTHS_EXHAUSTED as EXHAUSTED, SLOT_MISSED as MISSED};
+    let (place, _) = nine_before(&answer_c());
+    let more = searched_more(&answer_c());
+    figures.phrase(EARLIER, format!("Without T a {MISSED} with a place above {place} is read"));
+    let nine = format!("it means {MISSED} with place tries - {more}");
+    figures.phrase(EARLIER, format!("One with place {place} is not decided: {nine}"));
+    figures.phrase(EARLIER, format!("one, {EXHAUSTED} with place tries - {more}"));
+    let alone = |tries: u16| match nine_without_longest((place, tries))[..] {
+        [(number, at)] => Some(format!("only with tries {tries} it is always {number} at {at}")),
+        _ => None,
+    };
+    figures.phrase(EARLIER, list((0..=u16::from(u8::MAX)).filter_map(alone)));
+    let wrong = format!("whose tries is not place + {more}");
+    figures.phrase(EARLIER, format!("gave a {MISSED} with a place above {place} {wrong}"));
+    let never = (0..).find(|&tries| nine_without_longest((place, tries)).is_empty());
+    let never = format!("a {MISSED} with tries {}", list(never));
+    figures.phrase(EARLIER, format!("{never} or above T + {more}"));
+    figures.phrase(EARLIER, format!("the first with {EXHAUSTED}."));
+    let lines = lines_of(&[request_a()]);
+    let first = lines.iter().flat_map(|line| line.split(' ').next()).next().unwrap_or_default();
+    figures.phrase(EARLIER, format!("its ordinals from {first} on, a number is {EXHAUSTED}"));
+    figures.phrase(EARLIER, format!("a place may be {EXHAUSTED} too"));
 }

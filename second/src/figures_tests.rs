@@ -1,18 +1,18 @@
-//! The run against the queries and the windows; the cases by T and by slots, what a larger T changes
-//! and what an old 9 means; documents that differ from the figures in a block, an example, the prose
-//! or a marker; and every digit of the dictionary and of docs/WORKED.md.
+//! The run against the queries and the windows; the cases by T and by slots, and what an old 9 means;
+//! documents that differ from the figures in a block, an example, the prose or a marker; and every
+//! digit of the dictionary and of docs/WORKED.md.
 
 use crate::cases::{record, request_a, request_b, request_d};
 use crate::documents::{cited, faults, Document};
 use crate::figures::{list_and, thousands, Figures};
 use crate::queries::{owner_query, standing_query};
 use crate::random::Random;
-use crate::records::{slot_field, HEAD};
+use crate::records::with_longest;
 use crate::run::Run;
 use crate::timetable::{IDLE, LAST_SLOT};
 use crate::worked::{
     anew, answer_b, answer_e, answered, asked, broken, by_longest, bytes_e, left_and_returned,
-    lines_of, nine_before, nine_today, only_owners, run_a, run_b, Waiting,
+    lines_of, nine_before, nine_today, nine_without_longest, only_owners, run_a, run_b, Waiting,
 };
 use std::ops::Range;
 
@@ -114,12 +114,16 @@ fn worked_by_longest() {
     assert_eq!(lines, ["1 0 0 1 0", "2 11 0 1 0", "3 0 0 2 1", "4 11 2 3 0", "5 9 2 3 0"]);
 }
 
+/// A transition slot: its slot of the core, the shortfalls of ids 0, 1 and 2, and who can have it.
+fn told(at: &Waiting) -> (u64, [i64; 3], Vec<u8>) {
+    (at.slot, [0, 1, 2].map(|id| at.shortfalls[id]), at.owners.clone())
+}
+
 /// In case E slot 9 can go to the valve alone and slot 10 to the detector alone, slot 11 to nobody.
 #[test]
 fn worked_slots_of_e() {
     let e = asked(&bytes_e(64));
     let waiting = only_owners(&run_b(), &e);
-    let told = |at: &Waiting| (at.slot, [0, 1, 2].map(|id| at.shortfalls[id]), at.owners.clone());
     let wanted = [
         (9, [64, 128, 128], vec![2]),
         (10, [128, 192, 0], vec![1]),
@@ -178,56 +182,37 @@ fn worked_in_place_of_e() {
     let (even, odd) = (later(10), later(11));
     assert_eq!([(even.number, even.place), (odd.number, odd.place)], [(8, 2), (9, 0)]);
     assert!((12..600).all(|slot| later(slot) == [even, odd][slot as usize % 2]));
+}
+
+/// After case A case E's listing misses slot 7 if the valve is listed from slot 6 on, and is
+/// accepted if it is listed from slot 7 on.
+#[test]
+fn worked_later_slot() {
     let after_a = |slot: u64| answered(&run_a(), &request_d(slot, 64)).0;
     assert_eq!([6, 7].map(|slot| (after_a(slot).number, after_a(slot).place)), [(9, 1), (0, 0)]);
+    let waiting = |slot: u64| only_owners(&run_a(), &asked(&request_d(slot, 64)));
+    let wanted = [(6, [128, 192, 0], vec![1]), (7, [192, 0, 128], Vec::new())];
+    assert_eq!(waiting(6).iter().map(told).collect::<Vec<_>>(), wanted);
+    assert_eq!(told(&waiting(7)[0]), (7, [192, 0, 0], vec![0]));
 }
 
-/// A request with another T.
-fn with_longest(request: &[u8], longest: u8) -> Vec<u8> {
-    let mut changed = request.to_vec();
-    changed[slot_field(0).len() + HEAD] = longest;
-    changed
-}
-
-/// What a larger T changes: nothing, unless the smaller one gets 11. What is then accepted is longer
-/// than the smaller T, and a slot that is then missed is not before it.
-fn raised(run: &Run, request: &[u8], smaller: u8, larger: u8) -> (u8, u8) {
-    let (before, after) = (
-        answered(run, &with_longest(request, smaller)),
-        answered(run, &with_longest(request, larger)),
-    );
-    match (before.0.number, after.0.number) {
-        (11, 0) => assert!(after.0.timetable.length > smaller),
-        (11, 9) => assert!(after.0.place >= u64::from(smaller)),
-        (11, number) => assert_eq!(number, 11),
-        _ => assert_eq!(after, before),
-    }
-    (before.0.number, after.0.number)
-}
-
-/// What the desk reads of a larger T holds for many requests, and each way of it comes.
+/// Case B sent again with a larger T meets its own timetable, and is too early.
 #[test]
-fn raising_longest() {
-    let mut seen = [[0; 12]; 12];
-    histories(5, |run, request| {
-        for (smaller, larger) in (0..6).flat_map(|larger| (0..larger).map(move |t| (t, larger))) {
-            let (before, after) = raised(run, request, smaller, larger);
-            seen[usize::from(before)][usize::from(after)] += 1;
-        }
-    });
-    let ways = [(0, 0), (8, 8), (9, 9), (11, 0), (11, 9), (11, 11)];
-    assert!(ways.iter().all(|&(before, after)| seen[before][after] > 20), "{seen:?}");
+fn sent_again() {
+    assert_eq!(answered(&run_b(), &with_longest(&request_b(6, 1), 2)).0.number, 6);
+    assert_eq!(answered(&run_a(), &with_longest(&request_b(6, 1), 2)), answer_b());
 }
 
 /// What a 9 from before CR 1 means today is what is answered today, and a 9 of today stays.
 fn same_nine(run: &Run, longest: u8, request: &[u8]) -> u8 {
     let answer = answered(run, request).0;
     if [9, 11].contains(&answer.number) {
-        assert_eq!(nine_today(longest, nine_before(&answer)), (answer.number, answer.place));
+        let today = Some((answer.number, answer.place));
+        assert_eq!(nine_today(longest, nine_before(&answer)), today);
         assert_eq!(u64::from(answer.tries), answer.place + 1);
     }
     if answer.number == 9 {
-        assert_eq!(nine_today(longest, (answer.place, answer.tries)), (9, answer.place));
+        assert_eq!(nine_today(longest, (answer.place, answer.tries)), Some((9, answer.place)));
     }
     answer.number
 }
@@ -235,9 +220,10 @@ fn same_nine(run: &Run, longest: u8, request: &[u8]) -> u8 {
 /// Every 9 is read exactly from its place, its tries and its T, be it from before CR 1 or not.
 #[test]
 fn nines_are_read() {
-    assert_eq!(nine_today(0, (0, 1)), (11, 0));
-    assert_eq!([2, 3, 64].map(|longest| nine_today(longest, (0, 3))), [(11, 2), (9, 2), (9, 2)]);
-    assert_eq!([2, 64].map(|longest| nine_today(longest, (0, 1))), [(9, 0), (9, 0)]);
+    assert_eq!(nine_today(0, (0, 1)), Some((11, 0)));
+    let third = [2, 3, 64].map(|longest| nine_today(longest, (0, 3)));
+    assert_eq!(third, [(11, 2), (9, 2), (9, 2)].map(Some));
+    assert_eq!([2, 64].map(|longest| nine_today(longest, (0, 1))), [Some((9, 0)); 2]);
     let mut numbers = [0; 12];
     histories(23, |run, request| {
         for longest in 0..=5 {
@@ -246,6 +232,27 @@ fn nines_are_read() {
         }
     });
     assert!(numbers[9] > 20 && numbers[11] > 20, "both are among them: {numbers:?}");
+}
+
+/// Tries of 0 or above T + 1, and a place above 0 that is not below T or not tries - 1, come from
+/// no version.
+#[test]
+fn nines_of_no_version() {
+    assert_eq!([0, 4, 5].map(|tries| nine_today(2, (0, tries))), [None; 3]);
+    assert_eq!([0, 2, 4].map(|tries| nine_today(64, (2, tries))), [None; 3]);
+    let by_longest = [1, 2, 3].map(|longest| nine_today(longest, (2, 3)));
+    assert_eq!(by_longest, [None, None, Some((9, 2))]);
+}
+
+/// Without T a 9 with a place above 0 means itself; one with place 0 is a 9 or an 11 at tries - 1,
+/// and an 11 alone where its tries are all that there can be.
+#[test]
+fn nines_without_t() {
+    assert!((1..64).all(|place| nine_without_longest((place, place as u16 + 1)) == [(9, place)]));
+    let either = |place: u64| [(11, place), (9, place)];
+    assert!((1..65).all(|tries| nine_without_longest((0, tries)) == either(u64::from(tries) - 1)));
+    assert_eq!(nine_without_longest((0, 65)), [(11, 64)]);
+    assert_eq!([0, 66].map(|tries| nine_without_longest((0, tries)).len()), [0; 2]);
 }
 
 /// In case B no shortfall reaches 256 R, and the valve's reaches 256.

@@ -16,19 +16,22 @@ use crate::timetable::{
 const CANDIDATES: usize = 24;
 /// A huge jump takes at most one in so many of the slots left, less in long streams.
 const LEAST_JUMP_PART: u64 = 64;
-/// The slots before the highest one at which a stream's last part goes on.
-const END_ROOM: u64 = 1 << 14;
+/// A stream's last part begins at most so many slots for each of its requests before the highest.
+const END_STEP: u64 = 64;
 
-/// What a request is meant to bring.
+/// What a request is meant to bring: anything, an acceptance with a length in a range, a slot in a
+/// range that is missed (9), a shortfall too large (8), or all lengths up to T in vain (11).
 #[derive(Clone, Copy, PartialEq, Eq)]
 enum Aim {
     Any,
     Length(u8, u8),
     Missed(u64, u64),
-    Number(u8),
+    Behind,
+    Exhausted,
 }
 
-/// A stream of requests, with the timetable that holds after those given so far.
+/// A stream of requests, with the timetable that holds after those given so far, the aim that waits
+/// for its block, and the request that the desk puts again.
 pub struct Generator {
     random: Random,
     timetable: Timetable,
@@ -36,7 +39,7 @@ pub struct Generator {
     last_part: u64,
     jump_part: u64,
     pending: Option<Aim>,
-    wanting: Option<Vec<u8>>,
+    again: Option<Vec<u8>>,
 }
 
 impl Generator {
@@ -54,7 +57,7 @@ impl Generator {
             last_part: count / 50,
             jump_part: (count / 64).max(LEAST_JUMP_PART),
             pending: None,
-            wanting: None,
+            again: None,
         }
     }
 
@@ -85,68 +88,79 @@ impl Generator {
             47..=54 => self.aimed(Aim::Length(1, 1)),
             55..=67 => self.aimed(Aim::Length(2, 8)),
             68..=80 => self.aimed(Aim::Length(9, LONGEST_TRANSITION as u8)),
-            81..=88 => self.aimed(Aim::Number(SHORTFALL_TOO_LARGE)),
-            89..=90 => self.aimed(Aim::Number(LENGTHS_EXHAUSTED)),
+            81..=88 => self.aimed(Aim::Behind),
+            89..=90 => self.aimed(Aim::Exhausted),
             91..=94 => self.aimed(Aim::Missed(0, 0)),
-            _ => self.aimed(Aim::Missed(1, LONGEST_TRANSITION as u64)),
+            _ => self.aimed(Aim::Missed(1, LONGEST_TRANSITION as u64 - 1)),
         }
     }
 
     /// What the desk asks after a refusal for want of a schedule: the same with a larger T.
     fn raised(&mut self) -> Option<Vec<u8>> {
-        let record = self.wanting.take()?;
+        let record = self.again.take()?;
         let most = LONGEST_TRANSITION as u64;
         let before = u64::from(read_request(&record).ok()?.longest);
+        if before == most {
+            return None;
+        }
         let longest = match self.random.below(4) {
             0 => before + 1,
             1 => self.random.between(before + 1, most),
-            2 => 2 * before + 1,
+            2 => (2 * before + 1).min(most),
             _ => most,
         };
-        (before < most).then(|| with_longest(&record, longest.min(most) as u8))
+        Some(with_longest(&record, longest as u8))
     }
 
     /// The first of some candidates that meets the aim; if none does, a block comes before it.
     fn aimed(&mut self, aim: Aim) -> Vec<u8> {
         for _ in 0..CANDIDATES {
             let mut request = self.candidate(aim);
-            let outcome = self.outcome(&request);
-            if meets(aim, &outcome) {
-                self.tighten(&mut request, &outcome);
+            if meets(aim, &self.outcome(&request)) {
+                self.tighten(&mut request);
                 self.pending = None;
                 return self.record(&request);
             }
         }
-        self.missed_aim(aim)
+        self.unmet(aim)
     }
 
-    /// A missed aim waits for the block that is asked for now, unless it has waited already.
-    fn missed_aim(&mut self, aim: Aim) -> Vec<u8> {
-        let again = self.pending.take().is_some();
+    /// An aim that is not met waits for the block that is asked for now, unless it has waited
+    /// already; 11 waits for its pair.
+    fn unmet(&mut self, aim: Aim) -> Vec<u8> {
+        let waited = self.pending.take().is_some();
         let listing = match aim {
-            _ if again => self.full_core(),
-            Aim::Number(LENGTHS_EXHAUSTED) => self.pair(),
+            _ if waited => self.full_core(),
+            Aim::Exhausted => self.pair(),
             _ => self.block(),
         };
-        self.pending = Some(aim).filter(|_| !again);
+        self.pending = Some(aim).filter(|_| !waited);
         let request = self.request(listing);
         self.record(&request)
     }
 
-    /// Now and then T is set to the least that brings the outcome, to one less, or to any less.
-    fn tighten(&mut self, request: &mut Request, outcome: &Outcome) {
-        let least = match outcome.number {
+    /// Now and then T is set to the least from which on a larger one changes nothing, to one less,
+    /// or to any less, if that least is not 0.
+    fn tighten(&mut self, request: &mut Request) {
+        let least = self.settled(request);
+        if least > 0 {
+            request.longest = match self.random.below(12) {
+                0..=2 => least,
+                3..=4 => least - 1,
+                5..=6 => self.random.below(u64::from(least)) as u8,
+                _ => request.longest,
+            };
+        }
+    }
+
+    /// The least T from which on a larger one changes nothing, whatever T the request has.
+    fn settled(&self, request: &Request) -> u8 {
+        let outcome = self.outcome(&Request { longest: LONGEST_TRANSITION as u8, ..*request });
+        match outcome.number {
             ACCEPTED => outcome.timetable.length,
             SLOT_MISSED => outcome.place as u8 + 1,
-            LENGTHS_EXHAUSTED => outcome.place as u8,
+            LENGTHS_EXHAUSTED => LONGEST_TRANSITION as u8,
             _ => 0,
-        };
-        match self.random.below(12) {
-            _ if least == 0 => (),
-            0..=2 => request.longest = least,
-            3..=4 => request.longest = least - 1,
-            5..=6 => request.longest = self.random.below(u64::from(least)) as u8,
-            _ => (),
         }
     }
 
@@ -160,12 +174,13 @@ impl Generator {
         change(&self.timetable, &record, &mut [0; AREA])
     }
 
-    /// A candidate suited to an aim: refusals 8 need lowered bounds, transitions need newcomers.
+    /// A candidate suited to an aim: 8 needs lowered bounds, 11 a full core, transitions newcomers;
+    /// for a missed slot several are pressed, half the time.
     fn candidate(&mut self, aim: Aim) -> Request {
         match aim {
             Aim::Any => self.any_change(),
-            Aim::Number(SHORTFALL_TOO_LARGE) => self.lowered_bounds(),
-            Aim::Number(_) => self.filled(),
+            Aim::Behind => self.lowered_bounds(),
+            Aim::Exhausted => self.filled(),
             Aim::Missed(..) if self.random.chance(1, 2) => self.pressed(),
             _ if self.random.chance(1, 3) => self.any_change(),
             _ => self.newcomers(),
@@ -432,8 +447,9 @@ impl Generator {
     fn slot(&mut self) -> u64 {
         let base = self.timetable.base;
         let room = LAST_SLOT.saturating_sub(base);
-        if self.left <= self.last_part && room > END_ROOM {
-            return LAST_SLOT - self.random.below(END_ROOM);
+        let end_room = END_STEP.saturating_mul(self.last_part);
+        if self.left <= self.last_part && room > end_room {
+            return LAST_SLOT - self.random.between(end_room / 2, end_room);
         }
         let step = match self.random.below(100) {
             0..=9 => 0,
@@ -470,21 +486,22 @@ impl Iterator for Generator {
             SLOT_MISSED => self.random.chance(1, 3),
             _ => false,
         };
-        self.wanting = asked_again.then(|| request.clone());
+        self.again = asked_again.then(|| request.clone());
         Some(request)
     }
 }
 
-/// An aim is met by its number, or by an acceptance with a length or a missed slot in its range.
+/// An aim is met by its number, and by a length or a missed slot in its range.
 fn meets(aim: Aim, outcome: &Outcome) -> bool {
     match aim {
         Aim::Any => true,
-        Aim::Number(number) => outcome.number == number,
+        Aim::Behind => outcome.number == SHORTFALL_TOO_LARGE,
+        Aim::Exhausted => outcome.number == LENGTHS_EXHAUSTED,
         Aim::Missed(first, last) => {
             outcome.number == SLOT_MISSED && (first..=last).contains(&outcome.place)
         }
         Aim::Length(first, last) => {
-            outcome.number == 0 && (first..=last).contains(&outcome.timetable.length)
+            outcome.number == ACCEPTED && (first..=last).contains(&outcome.timetable.length)
         }
     }
 }

@@ -18,7 +18,7 @@ pub const TOO_EARLY: u8 = 6;
 pub const OVERFULL: u8 = 7;
 /// A shortfall at the request slot is not below 256 times the new R.
 pub const SHORTFALL_TOO_LARGE: u8 = 8;
-/// A transition slot is missed, and no length up to it gives a schedule.
+/// A transition slot below T is missed, and no length up to it gives a schedule.
 pub const SLOT_MISSED: u8 = 9;
 /// A query's id is not listed.
 pub const NOT_LISTED: u8 = 10;

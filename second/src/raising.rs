@@ -33,14 +33,26 @@ fn ends(timetable: &Timetable, record: &[u8], area: &[u8], all: &[u8]) -> Vec<En
     all.iter().map(end).collect()
 }
 
-/// The sentences of docs/RULES.md 1.8 about two requests that differ in T alone.
+/// The places of docs/RULES.md 4.7: 9 has a slot below T, 11 has T.
+fn check_place(end: &End) {
+    let (longest, outcome) = (u64::from(end.longest), &end.outcome);
+    let told = match outcome.number {
+        9 => outcome.place < longest,
+        11 => outcome.place == longest,
+        _ => true,
+    };
+    assert!(told, "T {longest}: {outcome:?}");
+}
+
+/// The sentences of docs/RULES.md 1.8 about two requests that differ in T alone: after an 11 comes
+/// an acceptance longer than the smaller T, a 9 not below it, or an 11; after all else the same.
 fn check_pair(smaller: &End, larger: &End) -> Kind {
     assert!(smaller.longest < larger.longest);
     let (first, then) = (&smaller.outcome, &larger.outcome);
     let holds = match (first.number, then.number) {
         (11, 0) => then.timetable.length > smaller.longest,
         (11, 9) => then.place >= u64::from(smaller.longest),
-        (11, number) => number == 11 && then.place == u64::from(larger.longest),
+        (11, number) => number == 11,
         _ => (first, &smaller.area) == (then, &larger.area),
     };
     assert!(holds, "T {}: {first:?}, T {}: {then:?}", smaller.longest, larger.longest);
@@ -68,6 +80,7 @@ fn check_request(random: &mut Random, timetable: &Timetable, record: &[u8], seen
     let some = [0, 1, 2, random.between(3, 32) as u8, random.between(33, 63) as u8, 64];
     let all: Vec<u8> = if every { (0..=64).collect() } else { some.to_vec() };
     let ends = ends(timetable, record, &area, &all);
+    ends.iter().for_each(check_place);
     let pairs = ends
         .iter()
         .enumerate()

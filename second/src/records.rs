@@ -129,10 +129,7 @@ pub fn longest_field(longest: u8) -> Vec<u8> {
 
 /// A request that is read, with another T: the last byte of its second field.
 pub fn with_longest(record: &[u8], longest: u8) -> Vec<u8> {
-    let at = slot_field(0).len() + HEAD;
     let mut other = record.to_vec();
-    if let Some(byte) = other.get_mut(at) {
-        *byte = longest;
-    }
+    other[slot_field(0).len() + HEAD] = longest;
     other
 }

@@ -122,26 +122,21 @@ fn case_d() {
     refused(&b, &request_d(8, 64), 8, 2, 0);
 }
 
-/// E: the rooms are 2, 1 and 0; id 2 gets slot 0 and id 1 slot 1, then ids 0 and 2 have room 0. So
-/// slot 2 is missed where it is sought, and up to T 2 all lengths are searched in vain.
-#[test]
-fn case_e() {
-    let b = after_b();
-    assert_eq!(shortfalls(&b, 9), [64, 128, 128]);
-    for longest in 0..=2 {
-        refused(&b, &request_d(9, longest), 11, u64::from(longest), u16::from(longest) + 1);
-    }
-    for longest in 3..=64 {
-        refused(&b, &request_d(9, longest), 9, 2, 3);
-    }
-}
-
 /// A request is refused 9 with a slot as its place at each T above it, and else 11 with place T.
 fn missed_at(timetable: &Timetable, request: impl Fn(u8) -> Vec<u8>, slot: u8) {
     for longest in 0..=64 {
         let (number, place) = if longest > slot { (9, slot) } else { (11, longest) };
         refused(timetable, &request(longest), number, u64::from(place), u16::from(place) + 1);
     }
+}
+
+/// E: the rooms are 2, 1 and 0; id 2 gets slot 0 and id 1 slot 1, then ids 0 and 2 have room 0. So
+/// slot 2 is missed where it is sought, and up to T 2 all lengths are searched in vain.
+#[test]
+fn case_e() {
+    let b = after_b();
+    assert_eq!(shortfalls(&b, 9), [64, 128, 128]);
+    missed_at(&b, |longest| request_d(9, longest), 2);
 }
 
 /// F: a slot before the base is too early, the base is not.
@@ -1031,7 +1026,7 @@ fn the_stream_reaches_every_answer() {
     assert_eq!(numbers[1] + numbers[2] + numbers[10], 0);
     assert!(numbers[3..10].iter().all(|&count| count >= 80), "{numbers:?}");
     assert!(numbers[11] >= 160, "{numbers:?}");
-    assert!(counts.wants.iter().all(|&count| count >= 20), "{:?}", counts.wants);
+    assert!(counts.wants.least() >= 20, "{:?}", counts.wants);
     assert!(counts.again.iter().all(|&count| count >= 10), "{:?}", counts.again);
     assert!(counts.lengths[0] > 400, "{:?}", counts.lengths);
     assert!(counts.lengths.iter().all(|&count| count >= 80), "{:?}", counts.lengths);

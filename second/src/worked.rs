@@ -89,14 +89,25 @@ pub fn nine_before(answer: &Outcome) -> (u64, u16) {
     (0, answer.tries)
 }
 
-/// The number and the place that a 9 with some place and tries has today, by the T of its request.
-pub fn nine_today(longest: u8, (place, tries): (u64, u16)) -> (u8, u64) {
-    let length = u64::from(tries.saturating_sub(1));
+/// The number and the place that a 9 with some place and tries has today, by the T of its request;
+/// none if no version gives such a 9.
+pub fn nine_today(longest: u8, (place, tries): (u64, u16)) -> Option<(u8, u64)> {
+    let (longest, length) = (u64::from(longest), u64::from(tries.checked_sub(1)?));
     match place {
-        0 if length == u64::from(longest) => (LENGTHS_EXHAUSTED, length),
-        0 => (SLOT_MISSED, length),
-        missed => (SLOT_MISSED, missed),
+        0 if length == longest => Some((LENGTHS_EXHAUSTED, length)),
+        0 if length < longest => Some((SLOT_MISSED, length)),
+        missed if missed == length && missed < longest => Some((SLOT_MISSED, missed)),
+        _ => None,
     }
+}
+
+/// All that a 9 with some place and tries may mean today where the T of its request is not known.
+pub fn nine_without_longest(nine: (u64, u16)) -> Vec<(u8, u64)> {
+    let all = 0..=LONGEST_TRANSITION as u8;
+    let mut meanings: Vec<(u8, u64)> =
+        all.filter_map(|longest| nine_today(longest, nine)).collect();
+    meanings.dedup();
+    meanings
 }
 
 /// The shortfalls behind a slot that goes to an id or, as 255, to nobody.
