@@ -51,16 +51,16 @@
  *                                  is accepted then has a transition of more than T slots
  *     TARNFLAW_SLOT_MISSED         place k: transition slot k, counted from 0, is missed. Every larger T gets the same answer
  *
- * So after 9, or after 11 with T at TARNFLAW_LONGEST, no T helps. A later slot, a larger R or a smaller share (a larger k) may. In version 1 both
- * were 9 with place 0, TARNFLAW_NO_SCHEDULE: a firmware that looked for that looks for 9 and for 11.
+ * So after 9, or after 11 with T at TARNFLAW_LONGEST, no T helps. A later slot, a larger R or a smaller share (a larger k) may. T is byte 14 of a
+ * request, counted from 0.
  *
  * Stored images
  *
- * The library has a version, TARNFLAW_VERSION, which is raised whenever an answer, a record or the image changes its meaning. The image changed it last
- * in version TARNFLAW_IMAGE_VERSION: one that was stored by that version or a later one means the same today (version 2 changed refusals alone, those
- * above), and is the same on every machine. A firmware that stores an image stores beside it:
+ * The library has a version, TARNFLAW_VERSION, which is raised whenever an answer, a record or the image changes its meaning. TARNFLAW_IMAGE_VERSION is
+ * the first version whose images mean what they mean today; such an image is the same on every machine. A firmware that stores an image stores beside
+ * it:
  *
- *     the version     where it is below TARNFLAW_IMAGE_VERSION or above TARNFLAW_VERSION, it starts from tarnflaw_empty, or refuses to start
+ *     the version     TARNFLAW_IMAGE_VERSION. Where another number stands there, it starts from tarnflaw_empty, or refuses to start
  *     a checksum      of its own, since soundness is none: of 69,615 images that differ from case B's in one byte 675 are sound. Byte 86,
  *                     say, the low byte of id 0's kept shortfall, may hold anything: with 0 there id 0 stands at 0 at slot 7, and not at 192
  *     the next slot   since the slots belong to the image. A board that counts from 0 again is refused 6 before the image's request slot; one that
@@ -68,6 +68,14 @@
  *
  * So it goes on at the next slot without a gap, or starts empty, and then counts from 0. Before it goes on it asks one query: on a refusal it starts
  * empty too. A change that waits (below) is not in the image in force, and is asked for again.
+ *
+ * From version 1 to version 2
+ *
+ * Exchange the header and the archive together: the archive tells no version. Images stay: what a firmware of version 1 stored as the version, its
+ * TARNFLAW_VERSION 1, is TARNFLAW_IMAGE_VERSION now. It has to be compared with that, since a test against TARNFLAW_VERSION would throw good images away.
+ * In version 1 both refusals above were 9 with place 0, TARNFLAW_NO_SCHEDULE. The name is gone, so that what compared with it is looked at: it asks for
+ * 9 and for 11 now. A literal 9 compiles on, and misses the 11. Numbers go up to 11: a table by number has 12 entries. How a logged 9 of version 1 is
+ * read stands in docs/DICTIONARY.md, "Earlier meanings"; a firmware that logs answers logs TARNFLAW_VERSION with them.
  *
  * Calls that overlap
  *
@@ -153,8 +161,8 @@
 extern "C" {
 #endif
 
-#define TARNFLAW_VERSION 2                   /* the version of the library, to be stored beside an image */
-#define TARNFLAW_IMAGE_VERSION 1             /* the first version whose images mean what they mean today */
+#define TARNFLAW_VERSION 2                   /* the version of the library, to be logged with an answer */
+#define TARNFLAW_IMAGE_VERSION 1             /* the first version whose images mean what they mean today, to be stored beside an image */
 #define TARNFLAW_IMAGE 273                   /* bytes of an image */
 #define TARNFLAW_REQUEST 207                 /* bytes that a request has at most */
 #define TARNFLAW_AREA 231                    /* bytes that an answer has at most, and an answer area at least */
@@ -174,7 +182,7 @@ enum tarnflaw_number {
     TARNFLAW_TOO_EARLY = 6,          /* slot too early */
     TARNFLAW_OVERFULL = 7,           /* weights sum above 256 */
     TARNFLAW_BEHIND = 8,             /* shortfall at the request slot not below 256 x new R */
-    TARNFLAW_SLOT_MISSED = 9,        /* a transition slot is missed, no length up to it gives a schedule */
+    TARNFLAW_SLOT_MISSED = 9,        /* a transition slot below T is missed, no length up to it gives a schedule */
     TARNFLAW_NOT_LISTED = 10,        /* id not listed */
     TARNFLAW_LENGTHS_EXHAUSTED = 11  /* no length up to T gives a schedule, all were searched */
 };
