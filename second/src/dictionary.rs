@@ -816,7 +816,8 @@ fn answers_by_t(rows: &[(u8, u8, Outcome)]) -> String {
 
 /// "Whether a larger T may help": the table of what the desk does.
 fn add_raising(figures: &mut Figures) {
-    use numbers::{ACCEPTED, LENGTHS_EXHAUSTED as EXHAUSTED, SLOT_MISSED as MISSED};
+    use numbers::{ACCEPTED, ID_NOT_RISING, NOT_SOUND, SHORTFALL_TOO_LARGE, WRONG_FIELD};
+    use numbers::{LENGTHS_EXHAUSTED as EXHAUSTED, SLOT_MISSED as MISSED};
     let most = LONGEST_TRANSITION as u8;
     let may = format!("After an {EXHAUSTED} a larger T may help, after a {MISSED} it can't");
     figures.phrase(RAISING, may);
@@ -826,7 +827,6 @@ fn add_raising(figures: &mut Figures) {
     let above = format!("can't be asked: a T above {most} is refused {}", refused_above());
     figures.phrase(RAISING, format!("| {EXHAUSTED}, T {most} | {above} | as with {MISSED}."));
     figures.phrase(RAISING, format!("| {MISSED} | gets the same {MISSED}, with the same place"));
-    use numbers::{ID_NOT_RISING, NOT_SOUND, SHORTFALL_TOO_LARGE, WRONG_FIELD};
     figures.phrase(RAISING, format!("| {NOT_SOUND} to {SHORTFALL_TOO_LARGE} | gets the same"));
     figures.phrase(RAISING, format!("{WRONG_FIELD} to {ID_NOT_RISING} aside, where the request"));
     figures.phrase(RAISING, format!("| {ACCEPTED} | would have got the same answer"));
