@@ -129,3 +129,13 @@ pub fn aligned(rows: &[(&str, Vec<String>)], gap: usize) -> String {
     let lines: Vec<String> = rows.iter().map(line).collect();
     lines.join("\n")
 }
+
+/// The values of a row that differ, each once, in the order in which they first come.
+pub fn in_turn<T: PartialEq>(values: impl Iterator<Item = T>) -> Vec<T> {
+    values.fold(Vec::new(), |mut seen, value| {
+        if !seen.contains(&value) {
+            seen.push(value);
+        }
+        seen
+    })
+}

@@ -21,6 +21,7 @@ pub mod records;
 pub mod timetable;
 
 mod damage;
+mod desk;
 mod dictionary;
 mod followed;
 mod run;

@@ -7,13 +7,16 @@ use crate::frames::{frame, print_lines};
 use crate::numbers::{LENGTHS_EXHAUSTED, SLOT_MISSED};
 use crate::records::{read_request, Request};
 use crate::run::Run;
-use crate::slots::{pass_slot, Shortfalls};
-use crate::timetable::{Listing, Share, Timetable, IDLE, IDS, LONGEST_TRANSITION};
+use crate::slots::{pass_slot, room, Shortfalls};
+use crate::timetable::{Listing, Share, Timetable, CYCLE, IDLE, IDS, LONGEST_TRANSITION};
 
 /// The ids of the cases by what they are in the lab.
 pub const PUMP_LOOP: u8 = 0;
 pub const DETECTOR: u8 = 1;
 pub const VALVE: u8 = 2;
+
+/// How long a slot lasts, in ms (docs/RULES.md 1.2).
+pub const SLOT_MS: usize = 2;
 
 /// The last slot that the documents show of case B.
 pub const LAST_SHOWN: u64 = 14;
@@ -210,4 +213,83 @@ pub fn slots_block(run: &Run, last: u64) -> String {
     let numbers = (0..=last).map(|slot| slot.to_string()).collect();
     let owners = (0..=last).map(|slot| mark(run, slot)).collect();
     aligned(&[("slot", numbers), ("owner", owners)], 1)
+}
+
+/// The bound R of an id in case B.
+pub fn bound(id: u8) -> u8 {
+    share(&asked_b().listing, id).bound
+}
+
+/// The outcome of a request that meets the last timetable of a run.
+pub fn outcome(run: &Run, request: &[u8]) -> Outcome {
+    answered(run, request).0
+}
+
+/// How many lengths more than its place says a refusal for want of a schedule has searched.
+pub fn searched_more(answer: &Outcome) -> u64 {
+    u64::from(answer.tries) - answer.place
+}
+
+/// Case C's request: case B's with T 0.
+pub fn bytes_c() -> Vec<u8> {
+    request_b(asked_b().slot, 0)
+}
+
+/// What case C asks.
+pub fn asked_c() -> Request {
+    asked(&bytes_c())
+}
+
+/// The answer to case C.
+pub fn answer_c() -> Outcome {
+    outcome(&run_a(), &bytes_c())
+}
+
+/// What case E asks, with the largest T.
+pub fn asked_e() -> Request {
+    asked(&bytes_e(LONGEST_TRANSITION as u8))
+}
+
+/// The transition slots of case E, up to the one that nobody can have.
+pub fn waiting_e() -> Vec<Waiting> {
+    only_owners(&run_b(), &asked_e())
+}
+
+/// The answers to case E for every T.
+pub fn by_t_e() -> Vec<(u8, u8, Outcome)> {
+    by_longest(&run_b(), bytes_e)
+}
+
+/// The last T at which case E's lengths are exhausted, and the next.
+pub fn around_e() -> (u8, u8) {
+    let exhausted = |(_, _, answer): &&(u8, u8, Outcome)| answer.number == LENGTHS_EXHAUSTED;
+    let last = by_t_e().iter().rev().find(exhausted).map_or(0, |&(_, last, _)| last);
+    (last, last + 1)
+}
+
+/// A partition of the cases by its name.
+pub fn name(id: u8) -> &'static str {
+    match id {
+        PUMP_LOOP => "pump loop",
+        DETECTOR => "detector",
+        VALVE => "valve",
+        _ => "nobody",
+    }
+}
+
+/// The room of a listed id at a transition slot.
+pub fn room_at(listing: &Listing, at: &Waiting, id: u8) -> u16 {
+    room(at.shortfalls[usize::from(id)], share(listing, id))
+}
+
+/// The least room at a transition slot, and the listed ids that have it.
+pub fn least_room(listing: &Listing, at: &Waiting) -> (u16, Vec<u8>) {
+    let rooms = |id: &u8| room_at(listing, at, *id);
+    let least = ids(listing).iter().map(rooms).min().unwrap_or(0);
+    (least, ids(listing).into_iter().filter(|id| rooms(id) == least).collect())
+}
+
+/// What a share's shortfall stays below: 256 R.
+pub fn limit_of(share: Share) -> usize {
+    CYCLE * usize::from(share.bound)
 }
