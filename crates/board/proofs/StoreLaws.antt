@@ -1,30 +1,19 @@
--- An image after a run of stores: a number from its low byte up, an entry, the entries one behind the other, the whole image. Assumes nothing.
+-- An image after a run of stores: an entry, the entries one behind the other, the whole image. Assumes nothing.
 use lib.ListN.{length, length-append, set, take}
 use lib.Seq.{sets, take-all}
 use mathlib.Core.List.{List, [], _∷_, _++_, append-assoc}
 use mathlib.Core.Path.{_≡_, refl, sym, ap, _∙_}
-use native.Mathlib.Numerals.{add-one, unary-clauses}
+use native.Mathlib.Numerals.{add-one}
 use native.Mathlib.Omega.{arith}
-use Prim.Native.Nat.{ℕ, zero, suc, _+_, _-_, _*_, _/_, _%_, _<_}
+use Prim.Native.Nat.{ℕ, zero, suc, _+_, _*_}
 use Rattle.board.specs.Image.{BASE-AT, ENTRIES-AT, ENTRY, IMAGE, LENGTH-AT, OWNERS-AT, entriesBytes, entryBytes, imageOf}
 use Rattle.records.proofs.FieldStands.{number-length}
-use Rattle.records.proofs.SetsLaws.{set-then, sets-all, sets-behind, sets-then}
+use Rattle.records.proofs.SetsLaws.{set-then, sets-all, sets-then}
 use Rattle.records.specs.Written.{numberBytes}
 use Rattle.slots.specs.Limits.{IDS, LONGEST}
 use Rattle.timetable.specs.declared.Entry.{Entry}
 use Rattle.timetable.specs.declared.Timetable.{Timetable}
 use Rattle.timetable.specs.Timetable.{entryOf}
-
--- The low byte of a number, then the bytes above it.
-pub number-put : (l : List ℕ) (at m v : ℕ) → 0 < m
-    → sets (set l (at + (m - 1)) (v % 256)) at (numberBytes (v / 256) (m - 1)) ≡ sets l at (numberBytes v m)
-unfolding numberBytes
-number-put l at zero v h = absurd (omega arith)
-number-put l at (suc n) v h =
-    let e = number-length (v / 256) n in
-    simp unary-clauses
-    (sets-behind l at (at + n) (numberBytes (v / 256) n) (v % 256) (omega arith)
-    ∙ set-then l at (at + n) (numberBytes (v / 256) n) (v % 256) (omega arith))
 
 -- The six bytes of an entry, one behind the other.
 pub entry-stored : (l a d : List ℕ) (at : ℕ) (e : Entry) → a ≡ sets l at (numberBytes (e .period) 2)

@@ -5,9 +5,9 @@ ghost use mathlib.Core.Path.{_≡_};
 ghost use Prim.Native.Nat.{_+_, _≤_};
 ghost use Rattle.board.specs.Image.{ENTRIES-AT, ENTRY, IMAGE, OWNERS-AT, entriesAt, entriesBytes, entryAt, entryBytes, imageOf, timetableAt};
 ghost use Rattle.records.specs.Request.{numberAt};
-ghost use Rattle.records.specs.Written.{numberBytes};
 ghost use Rattle.slots.specs.Limits.{IDS, LONGEST};
-use records::read::number_at;
+use records::number_at;
+use records::put_number;
 use records::write::put_owners;
 use slots::CoreSlot;
 use timetable::Entry;
@@ -133,18 +133,4 @@ fn put_entry(image: &mut [u8], at: usize, e: Entry)
     image[at + 2] = e.offset;
     image[at + 3] = e.bound;
     put_number(image, at + 4, 2, e.shortfall as u64);
-}
-
-// Writes the last `width` bytes of a number, high byte first.
-fn put_number(image: &mut [u8], at: usize, width: usize, number: u64)
-    requires { ⌜ at + width ≤ length (now image) ⌝ }
-    ensures { λ _. ⌜ now (image .exit) ≡ sets (now (image .entry)) at (numberBytes number width) ⌝ }
-{
-    let mut left = width;
-    let mut rest = number;
-    while 0 < left {
-        left -= 1;
-        image[at + left] = (rest % 256) as u8;
-        rest /= 256;
-    }
 }

@@ -6,7 +6,7 @@ use mathlib.Core.List.{List, [], _∷_, _++_}
 use mathlib.Core.Path.{_≡_, refl}
 use native.Mathlib.Omega.{arith}
 use Prim.Native.Nat.{ℕ, zero, suc, _+_, _*_, _/_, _%_, _≤_}
-use Rattle.records.specs.Answer.{answerRecord, field, offsetFields}
+use Rattle.records.specs.Answer.{answerRecord, field, entryFields, rising}
 use Rattle.records.specs.AnswerForm.{listedBelow}
 use Rattle.slots.proofs.Below.{count-most}
 use Rattle.slots.specs.Below.{count}
@@ -19,13 +19,13 @@ abbrev pub answerHead : ℕ → List ℕ
 answerHead n = 0x10 ∷ 0 ∷ 1 ∷ n ∷ 0x11 ∷ 0 ∷ n ∷ []
 
 -- The offsets take five bytes for each listed id.
-pub offsets-length : (es : List Entry) (n : ℕ) → length (offsetFields es n) ≡ 5 * listedBelow es n
-unfolding offsetFields count field
+pub offsets-length : (es : List Entry) (n : ℕ) → length (entryFields es n) ≡ 5 * listedBelow es n
+unfolding rising count field
 offsets-length es zero = refl
 offsets-length es (suc n) = at (isListed (entryOf es n)) _ refl (offsets-length es n)
   where
-    at : (b : Bool) (f : List ℕ) → length f ≡ 5 → length (offsetFields es n) ≡ 5 * listedBelow es n
-        → length (offsetFields es n ++ cond b f []) ≡ 5 * (listedBelow es n + cond b 1 0)
+    at : (b : Bool) (f : List ℕ) → length f ≡ 5 → length (entryFields es n) ≡ 5 * listedBelow es n
+        → length (entryFields es n ++ cond b f []) ≡ 5 * (listedBelow es n + cond b 1 0)
     at true f l h = simp length-append (omega arith)
     at false f l h = simp length-append (omega arith)
 
@@ -40,7 +40,7 @@ module _ (n : ℕ) (owners : List ℕ) (es : List Entry) where
   answer-length h = omega (arith, answer-bytes, length-take n owners, count-most (λ i. isListed (entryOf es i)) IDS)
 
   -- An answer's bytes: its first seven, the owners, the offsets.
-  pub answer-run : n ≤ LONGEST → n ≤ length owners → answerHead n ++ take n owners ++ offsetFields es IDS ≡ answerRecord n owners es
+  pub answer-run : n ≤ LONGEST → n ≤ length owners → answerHead n ++ take n owners ++ entryFields es IDS ≡ answerRecord n owners es
   unfolding answerRecord field
   answer-run small enough =
       let high : length (take n owners) / 256 ≡ 0 = omega (arith, length-take-le n owners enough) in

@@ -11,7 +11,7 @@ use native.Mathlib.Omega.{arith}
 use Prim.Native.Nat.{ℕ, suc, _+_, _-_, _*_, _/_, _≤_, _<_}
 use Rattle.records.proofs.AnswerLaws.{answer-bytes, answer-length, answer-run, answerHead, offsets-length}
 use Rattle.records.proofs.SetsLaws.{sets-front, sets-rest}
-use Rattle.records.specs.Answer.{answerRecord, field, offsetFields}
+use Rattle.records.specs.Answer.{answerRecord, field, entryFields, rising}
 use Rattle.records.specs.AnswerForm.{AnswerStands, listedBelow, Stand}
 use Rattle.slots.proofs.Below.{count-reaches, count-rises}
 use Rattle.slots.specs.Limits.{AREA, IDS, LONGEST}
@@ -19,15 +19,15 @@ use Rattle.timetable.specs.declared.Entry.{Entry}
 use Rattle.timetable.specs.Timetable.{entryOf, isListed}
 
 -- Bytes stand at their own start.
-stand-first : (bytes t : List ℕ) → Stand (bytes ++ t) 0 bytes
+pub stand-first : (bytes t : List ℕ) → Stand (bytes ++ t) 0 bytes
 stand-first bytes t k h = rw zero-add (List·getD-append bytes t 0 k h)
 
 -- What stands in a list stands there whatever follows,
-stand-front : (s t bytes : List ℕ) (at : ℕ) → at + length bytes ≤ length s → Stand s at bytes → Stand (s ++ t) at bytes
+pub stand-front : (s t bytes : List ℕ) (at : ℕ) → at + length bytes ≤ length s → Stand s at bytes → Stand (s ++ t) at bytes
 stand-front s t bytes at l x k h = List·getD-append s t 0 (at + k) (omega arith) ∙ x k h
 
 -- and further on behind another list.
-stand-behind : (s t bytes : List ℕ) (n at : ℕ) → length s ≡ n → Stand t at bytes → Stand (s ++ t) (n + at) bytes
+pub stand-behind : (s t bytes : List ℕ) (n at : ℕ) → length s ≡ n → Stand t at bytes → Stand (s ++ t) (n + at) bytes
 stand-behind s t bytes n at e x k h = rw (← e, add-assoc) (getD-append-add s t (at + k) 0 ∙ x k h)
 
 -- The offset field of an id, byte by byte.
@@ -35,27 +35,27 @@ abbrev offsetBytes : List Entry → ℕ → List ℕ
 offsetBytes es i = 0x12 ∷ 0 ∷ 2 ∷ i ∷ entryOf es i .offset ∷ []
 
 -- Among the offset fields of the ids below m, a listed id's stands behind those of the lower listed ids, five bytes each.
-offset-from : (es : List Entry) (m i : ℕ) → i < m → isListed (entryOf es i) ≡ true → Stand (offsetFields es m) (5 * listedBelow es i) (offsetBytes es i)
-unfolding offsetFields field
+offset-from : (es : List Entry) (m i : ℕ) → i < m → isListed (entryOf es i) ≡ true → Stand (entryFields es m) (5 * listedBelow es i) (offsetBytes es i)
+unfolding rising field
 offset-from es (suc m) i h l = at (ℕ-discrete i m) (λ k. offset-from es m i k l)
   where
-    at : Dec (i ≡ m) → (i < m → Stand (offsetFields es m) (5 * listedBelow es i) (offsetBytes es i))
-        → Stand (offsetFields es (suc m)) (5 * listedBelow es i) (offsetBytes es i)
+    at : Dec (i ≡ m) → (i < m → Stand (entryFields es m) (5 * listedBelow es i) (offsetBytes es i))
+        → Stand (entryFields es (suc m)) (5 * listedBelow es i) (offsetBytes es i)
     at (yes z) ih =
-        subst (λ (x : ℕ). Stand (offsetFields es (suc m)) (5 * listedBelow es x) (offsetBytes es x)) (sym z)
-        (rw (rw z at l, ← (offsets-length es m)) (λ k h. getD-append-add (offsetFields es m) _ k 0))
+        subst (λ (x : ℕ). Stand (entryFields es (suc m)) (5 * listedBelow es x) (offsetBytes es x)) (sym z)
+        (rw (rw z at l, ← (offsets-length es m)) (λ k h. getD-append-add (entryFields es m) _ k 0))
     at (no z) ih =
         let k : i < m = omega arith in
         let c = count-rises (λ x. isListed (entryOf es x)) i m k l in
-        stand-front (offsetFields es m) _ (offsetBytes es i) _ (omega (arith, offsets-length es m)) (ih k)
+        stand-front (entryFields es m) _ (offsetBytes es i) _ (omega (arith, offsets-length es m)) (ih k)
 
 module _ (size : ℕ) (owners : List ℕ) (es : List Entry) (small : size ≤ LONGEST) (enough : size ≤ length owners) (t : List ℕ) where
   -- The owners and the offsets, and what follows.
   abbrev tail : List ℕ
-  tail = take size owners ++ offsetFields es IDS ++ t
+  tail = take size owners ++ entryFields es IDS ++ t
 
   -- The answer's bytes.
-  run : answerHead size ++ take size owners ++ offsetFields es IDS ≡ answerRecord size owners es
+  run : answerHead size ++ take size owners ++ entryFields es IDS ≡ answerRecord size owners es
   run = answer-run size owners es small enough
 
   -- The transition's length stands first,
@@ -73,8 +73,8 @@ module _ (size : ℕ) (owners : List ℕ) (es : List Entry) (small : size ≤ LO
       let o = length-take-le size owners enough in
       rw (← run)
       (getD-append-add (answerHead size) tail k 0
-      ∙ ap (λ (z : List ℕ). getD z k 0) (append-assoc (take size owners) (offsetFields es IDS) t)
-      ∙ List·getD-append (take size owners) (offsetFields es IDS ++ t) 0 k (omega arith)
+      ∙ ap (λ (z : List ℕ). getD z k 0) (append-assoc (take size owners) (entryFields es IDS) t)
+      ∙ List·getD-append (take size owners) (entryFields es IDS ++ t) 0 k (omega arith)
       ∙ getD-take size owners k 0 h)
 
   -- and each listed id's offset field behind those of the lower listed ids.
@@ -84,9 +84,9 @@ module _ (size : ℕ) (owners : List ℕ) (es : List Entry) (small : size ≤ LO
       let o = length-take-le size owners enough in
       let c = count-rises (λ x. isListed (entryOf es x)) i IDS k l in
       rw (← run)
-      (stand-front (answerHead size ++ take size owners ++ offsetFields es IDS) t (offsetBytes es i) (7 + size + 5 * listedBelow es i)
-      (omega (arith, length-append (take size owners) (offsetFields es IDS), offsets-length es IDS))
-      (stand-behind (answerHead size ++ take size owners) (offsetFields es IDS) (offsetBytes es i) (7 + size) (5 * listedBelow es i) (omega arith)
+      (stand-front (answerHead size ++ take size owners ++ entryFields es IDS) t (offsetBytes es i) (7 + size + 5 * listedBelow es i)
+      (omega (arith, length-append (take size owners) (entryFields es IDS), offsets-length es IDS))
+      (stand-behind (answerHead size ++ take size owners) (entryFields es IDS) (offsetBytes es i) (7 + size) (5 * listedBelow es i) (omega arith)
       (offset-from es IDS i k l)))
 
 -- An answer that is written stands so.
@@ -107,7 +107,7 @@ answer-stands size owners es before small enough room =
     }
 
 -- What stands in two areas at one place is the same there.
-agree : (a b bytes : List ℕ) (at : ℕ) → Stand a at bytes → Stand b at bytes → (j : ℕ) → at ≤ j → j < at + length bytes → getD a j 0 ≡ getD b j 0
+pub agree : (a b bytes : List ℕ) (at : ℕ) → Stand a at bytes → Stand b at bytes → (j : ℕ) → at ≤ j → j < at + length bytes → getD a j 0 ≡ getD b j 0
 agree a b bytes at x y j l h =
     let e : j ≡ at + (j - at) = omega arith in
     rw e (x (j - at) (omega arith) ∙ sym (y (j - at) (omega arith)))

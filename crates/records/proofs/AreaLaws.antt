@@ -9,7 +9,7 @@ use native.Mathlib.Omega.{arith}
 use Prim.Native.Nat.{ℕ, _+_, _*_, _≤_, _<_}
 use Rattle.records.proofs.AnswerLaws.{answer-run, answerHead, offsets-length}
 use Rattle.records.proofs.SetsLaws.{set-then, sets-then}
-use Rattle.records.specs.Answer.{answerRecord, field, offsetFields}
+use Rattle.records.specs.Answer.{answerRecord, field, entryFields, rising}
 use Rattle.slots.proofs.Below.{count-most}
 use Rattle.slots.specs.Limits.{IDS, LONGEST}
 use Rattle.timetable.specs.declared.Entry.{Entry}
@@ -26,24 +26,24 @@ offset-field l m at id offset e =
 
 module _ (es : List Entry) (n : ℕ) where
   -- The offsets of the ids below n take at most five bytes each.
-  pub offsets-room : length (offsetFields es n) ≤ 5 * n
+  pub offsets-room : length (entryFields es n) ≤ 5 * n
   offsets-room = omega (arith, offsets-length es n, count-most (λ i. isListed (entryOf es i)) n)
 
   -- A listed id adds its field.
   offsets-listed : 0 < entryOf es n .period
-      → offsetFields es (n + 1) ≡ offsetFields es n ++ field 0x12 (n ∷ entryOf es n .offset ∷ [])
-  unfolding offsetFields
-  offsets-listed h = rw (add-one n, offsetFields, lt-ltb _ _ h)
+      → entryFields es (n + 1) ≡ entryFields es n ++ field 0x12 (n ∷ entryOf es n .offset ∷ [])
+  unfolding rising
+  offsets-listed h = rw (add-one n, entryFields, lt-ltb _ _ h)
 
   -- An id that is not listed adds nothing.
-  offsets-same : entryOf es n .period ≤ 0 → offsetFields es (n + 1) ≡ offsetFields es n
-  unfolding offsetFields
-  offsets-same h = rw (add-one n, offsetFields, le-ltb _ _ h) (append-nil (offsetFields es n))
+  offsets-same : entryOf es n .period ≤ 0 → entryFields es (n + 1) ≡ entryFields es n
+  unfolding rising
+  offsets-same h = rw (add-one n, entryFields, le-ltb _ _ h) (append-nil (entryFields es n))
 
 -- The offsets of the ids below n are stored from `from` on, and `at` is the place after them.
 pub record Stored (l area : List ℕ) (from at : ℕ) (es : List Entry) (n : ℕ) : Type 0 where
-  pub content : area ≡ sets l from (offsetFields es n)
-  pub place : at ≡ from + length (offsetFields es n)
+  pub content : area ≡ sets l from (entryFields es n)
+  pub place : at ≡ from + length (entryFields es n)
 
 module _ (l area : List ℕ) (from at : ℕ) (es : List Entry) (n : ℕ) (s : Stored l area from at es n) where
   -- One listed id more.
@@ -56,9 +56,9 @@ module _ (l area : List ℕ) (from at : ℕ) (es : List Entry) (n : ℕ) (s : St
         content =
             e
             ∙ ap (λ (x : List ℕ). sets x at (field 0x12 (n ∷ entryOf es n .offset ∷ []))) (s .content)
-            ∙ sets-then l from at (offsetFields es n) (field 0x12 (n ∷ entryOf es n .offset ∷ [])) (s .place)
+            ∙ sets-then l from at (entryFields es n) (field 0x12 (n ∷ entryOf es n .offset ∷ [])) (s .place)
             ∙ ap (sets l from) (sym o);
-        place = omega (arith, s .place, ap (λ (x : List ℕ). length x) o, length-append (offsetFields es n) (field 0x12 (n ∷ entryOf es n .offset ∷ [])));
+        place = omega (arith, s .place, ap (λ (x : List ℕ). length x) o, length-append (entryFields es n) (field 0x12 (n ∷ entryOf es n .offset ∷ [])));
       }
 
   -- One id more that is not listed.
@@ -70,8 +70,8 @@ module _ (l area : List ℕ) (from at : ℕ) (es : List Entry) (n : ℕ) (s : St
 module _ (n : ℕ) (owners : List ℕ) (es : List Entry) (small : n ≤ LONGEST) (enough : n ≤ length owners) where
   -- An area in which they are stored one behind the other holds the answer.
   pub answer-stored : (l a b d e : List ℕ) (k r : ℕ) → a ≡ sets l 0 (0x10 ∷ 0 ∷ 1 ∷ [])
-      → b ≡ sets (set a 3 n) 4 (0x11 ∷ 0 ∷ n ∷ []) → k ≡ 7 + n → d ≡ sets b 7 (take n owners) → r ≡ k + length (offsetFields es IDS)
-      → e ≡ sets d k (offsetFields es IDS)
+      → b ≡ sets (set a 3 n) 4 (0x11 ∷ 0 ∷ n ∷ []) → k ≡ 7 + n → d ≡ sets b 7 (take n owners) → r ≡ k + length (entryFields es IDS)
+      → e ≡ sets d k (entryFields es IDS)
       → (r ≡ length (answerRecord n owners es)) × (e ≡ sets l 0 (answerRecord n owners es))
   answer-stored l a b d e k r pa pb pk pd pr pe =
       let t = length-take-le n owners enough in
@@ -79,9 +79,9 @@ module _ (n : ℕ) (owners : List ℕ) (es : List Entry) (small : n ≤ LONGEST)
       let head = answerHead n in
       let x : b ≡ sets l 0 head = rw (pb, pa) in
       let y : d ≡ sets l 0 (head ++ take n owners) = pd ∙ rw x (sets-then l 0 7 head (take n owners) refl) in
-      let z : e ≡ sets l 0 (head ++ take n owners ++ offsetFields es IDS) =
-      pe ∙ rw y (sets-then l 0 k (head ++ take n owners) (offsetFields es IDS) (omega arith))
+      let z : e ≡ sets l 0 (head ++ take n owners ++ entryFields es IDS) =
+      pe ∙ rw y (sets-then l 0 k (head ++ take n owners) (entryFields es IDS) (omega arith))
       in (
-        omega (arith, ap (λ (v : List ℕ). length v) run, length-append (take n owners) (offsetFields es IDS)),
+        omega (arith, ap (λ (v : List ℕ). length v) run, length-append (take n owners) (entryFields es IDS)),
         z ∙ ap (sets l 0) run,
       )

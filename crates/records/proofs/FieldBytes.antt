@@ -28,7 +28,7 @@ module _ (s : List ℕ) where
   bytes-length at (suc n) = simp length-append (omega (arith, bytes-length at n))
 
   -- They are what stands there, if the record is that long.
-  bytes-taken : (at n : ℕ) → at + n ≤ length s → take n (drop at s) ≡ bytesAt s at n
+  pub bytes-taken : (at n : ℕ) → at + n ≤ length s → take n (drop at s) ≡ bytesAt s at n
   unfolding bytesAt
   bytes-taken at zero h = refl
   bytes-taken at (suc n) h =

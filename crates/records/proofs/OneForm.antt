@@ -8,14 +8,14 @@ use mathlib.Core.Bool.{Bool, true, cond}
 use mathlib.Core.List.{List, [], _++_, append-assoc, append-nil}
 use mathlib.Core.Option.{some}
 use mathlib.Core.Path.{_≡_, refl, sym, ap, _∙_}
-use native.Mathlib.Decide.{ℕ-discrete}
 use native.Mathlib.Omega.{arith}
-use Prim.Native.Nat.{ℕ, zero, suc, _+_, _^_, _≤_, _<_}
+use Prim.Native.Nat.{ℕ, suc, _+_, _^_, _≤_, _<_}
 use Rattle.records.proofs.FieldBytes.{bytesAt, field-cut, number-cut}
 use Rattle.records.proofs.FieldLaws.{ListedForm}
 use Rattle.records.proofs.ReadLaws.{no-ask}
 use Rattle.records.proofs.ReadSteps.{ListingRead, RequestRead, listed-range, request-read}
-use Rattle.records.specs.Answer.{field}
+use Rattle.records.proofs.RisingLaws.{EmptyFrom, empty-above, rising-above}
+use Rattle.records.specs.Answer.{field, rising}
 use Rattle.records.specs.declared.Ask.{Ask}
 use Rattle.records.specs.declared.Listing.{Listing}
 use Rattle.records.specs.declared.Reading.the-variants.{Whole}
@@ -55,33 +55,26 @@ listed-cut s at (ListedForm.short p q) e =
 
 -- From this id on nothing is listed.
 abbrev pub Fresh : ℕ → List Ask → Type 0
-Fresh floor asks = (i : ℕ) → floor ≤ i → askOf asks i ≡ noAsk
+Fresh floor asks = EmptyFrom noAsk floor asks
+
+-- What is written of id i.
+abbrev pub askedBytes : List Ask → ℕ → List ℕ
+askedBytes asks i = cond (isAsked (askOf asks i)) (listedBytes i (askOf asks i)) []
 
 module _ (asks : List Ask) (id : ℕ) (a : Ask) where
-  -- The ids below one that is listed are written as before.
-  listing-below : (n : ℕ) → n ≤ id → listingBytes (set asks id a) n ≡ listingBytes asks n
-  unfolding listingBytes
-  listing-below zero h = refl
-  listing-below (suc n) h = rw (listing-below n (omega arith), getD-set-other asks id n a noAsk (omega arith))
-
   -- One more listed id, above all that were, is written behind them.
-  listing-above : id < length asks → isAsked a ≡ true → Fresh id asks → (n : ℕ) → id < n
+  pub listing-above : id < length asks → isAsked a ≡ true → Fresh id asks → (n : ℕ) → id < n
       → listingBytes (set asks id a) n ≡ listingBytes asks n ++ listedBytes id a
-  unfolding listingBytes
-  listing-above h e f (suc n) l = at (ℕ-discrete n id) (λ k. listing-above h e f n k)
-    where
-      at : Dec (n ≡ id) → (id < n → listingBytes (set asks id a) n ≡ listingBytes asks n ++ listedBytes id a)
-          → listingBytes (set asks id a) n ++ cond (isAsked (askOf (set asks id a) n)) (listedBytes n (askOf (set asks id a) n)) []
-          ≡ (listingBytes asks n ++ cond (isAsked (askOf asks n)) (listedBytes n (askOf asks n)) []) ++ listedBytes id a
-      at (yes q) ih =
-          rw (q, getD-set-same asks id a noAsk h, e, f id (omega arith), listing-below id (omega arith), append-nil (listingBytes asks id))
-      at (no q) ih =
-          rw (getD-set-other asks id n a noAsk q, f n (omega arith), ih (omega arith), append-nil (listingBytes asks n))
-          (append-nil (listingBytes asks n ++ listedBytes id a))
+  listing-above h e f n l =
+      rising-above (askedBytes asks) (askedBytes (set asks id a)) id
+      (λ i k. rw (getD-set-other asks id i a noAsk k))
+      (λ i k. rw (f i k))
+      n l
+      ∙ ap (λ (z : List ℕ). listingBytes asks n ++ z) (rw (getD-set-same asks id a noAsk h, e))
 
   -- Above it nothing is listed.
   pub fresh-above : Fresh id asks → Fresh (suc id) (set asks id a)
-  fresh-above f i h = getD-set-other asks id i a noAsk (omega arith) ∙ f i (omega arith)
+  fresh-above = empty-above noAsk asks id a
 
 -- A listing that is read whole is written behind what was listed before.
 listing-form : (s : List ℕ) {at floor : ℕ} {asks : List Ask} {x : Listing} → ListingRead s (length s) at floor asks x → x .reading ≡ Whole
@@ -100,8 +93,8 @@ listing-form s (ListingRead.more {at = at} {next = next} {bound = bound} {asks =
     ∙ ap (λ (z : List ℕ). listingBytes asks IDS ++ z) (sym (listed-cut s at t r))
 
 -- Where nothing is listed nothing is written.
-nothing-listed : listingBytes noAsks IDS ≡ []
-unfolding listingBytes
+pub nothing-listed : listingBytes noAsks IDS ≡ []
+unfolding rising
 nothing-listed = refl
 
 -- A record that is read is the one form of what it says, and nothing follows.

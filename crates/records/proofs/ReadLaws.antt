@@ -8,6 +8,7 @@ use native.Mathlib.Decide.{ℕ-discrete}
 use native.Mathlib.Omega.{arith}
 use Prim.Native.Nat.{ℕ, zero, suc, _≤_, _<_}
 use Rattle.records.proofs.FieldLaws.{NumberRead, ListedRead}
+use Rattle.records.proofs.RisingLaws.{all-empty}
 use Rattle.records.proofs.ReadSteps.{ListingRead, RequestRead, listed-range, number-range, request-read}
 use Rattle.records.specs.declared.Ask.{Ask}
 use Rattle.records.specs.declared.ListedField.the-variants.{Refused as listed-refused}
@@ -22,12 +23,7 @@ use Rattle.slots.specs.Limits.{IDS}
 
 -- Where nothing is asked, every id is not listed.
 pub no-ask : (i : ℕ) → askOf noAsks i ≡ noAsk
-no-ask = same IDS
-  where
-    same : (n i : ℕ) → getD (replicate n noAsk) i noAsk ≡ noAsk
-    same zero i = refl
-    same (suc n) zero = refl
-    same (suc n) (suc i) = same n i
+no-ask = all-empty noAsk IDS
 
 -- A listing that asks for nothing is in range.
 no-asks-range : AsksRange noAsks

@@ -4,19 +4,19 @@ use lib.Dec.{eqb}
 use lib.ListN.{drop, length, length-drop, length-set, set}
 use lib.Seq.{ext-getD, getD-set-other, getD-set-same}
 use mathlib.Core.Bool.{Bool, true, false, cond, _&&_}
-use mathlib.Core.List.{List, [], _∷_, _++_, append-assoc, append-nil}
+use mathlib.Core.List.{List, [], _∷_, _++_, append-assoc}
 use mathlib.Core.Logic.{inl, inr}
 use mathlib.Core.Path.{_≡_, refl, sym, ap, ap₂, _∙_, subst, subst₂}
 use native.Mathlib.Decide.{ℕ-discrete}
-use native.Mathlib.Nat.{add-zero}
 use native.Mathlib.Omega.{arith}
 use Prim.Native.Nat.{ℕ, zero, suc, _+_, _^_, _≤_, _<_}
 use Rattle.records.proofs.FieldLaws.{NumberRead, ListedForm}
 use Rattle.records.proofs.FieldStands.{after-stands, content-from, content-stands, field-stands, no-other-length, number-length, number-stands, stands-inside}
-use Rattle.records.proofs.OneForm.{Fresh, exponent-power, fresh-above}
+use Rattle.records.proofs.OneForm.{Fresh, askedBytes, exponent-power, fresh-above}
 use Rattle.records.proofs.ReadLaws.{AskRange, AsksRange, RequestRange, no-ask}
 use Rattle.records.proofs.ReadSteps.{ListingRead, RequestRead, request-is}
-use Rattle.records.specs.Answer.{field}
+use Rattle.records.proofs.RisingLaws.{FilledTo, filled-all, filled-next, filled-same, rising-split, risingFrom}
+use Rattle.records.specs.Answer.{field, rising}
 use Rattle.records.specs.declared.Ask.{Ask}
 use Rattle.records.specs.declared.NumberField.the-variants.{Value as number-value}
 use Rattle.records.specs.declared.Reading.the-variants.{Whole}
@@ -112,35 +112,6 @@ listed-back s at id a rest h p b = by (eqb (a .bound) 0) refl
           ahead = omega (arith, stands-inside s at 3 content rest e);
         }
 
--- The tag 3 fields of the listed ids among the n from `floor` on.
-unfoldable listingFrom : List Ask → ℕ → ℕ → List ℕ
-listingFrom asks floor zero = []
-listingFrom asks floor (suc n) =
-    cond (isAsked (askOf asks floor)) (listedBytes floor (askOf asks floor)) [] ++ listingFrom asks (suc floor) n
-
--- A listing is written up to an id, and then from there on.
-listing-split : (asks : List Ask) (floor n : ℕ) → listingBytes asks (floor + n) ≡ listingBytes asks floor ++ listingFrom asks floor n
-unfolding listingBytes listingFrom
-listing-split asks floor zero = rw (add-zero floor) (sym (append-nil (listingBytes asks floor)))
-listing-split asks floor (suc n) =
-    let k : floor + suc n ≡ suc floor + n = omega arith in
-    rw k (listing-split asks (suc floor) n ∙ append-assoc (listingBytes asks floor) _ (listingFrom asks (suc floor) n))
-
--- Read up to an id: what is asked below it, and nothing from there on.
-record ReadUpTo (all : List Ask) (floor : ℕ) (asks : List Ask) : Type 0 where
-  count : length asks ≡ IDS
-  below : (i : ℕ) → i < floor → askOf asks i ≡ askOf all i
-  fresh : Fresh floor asks
-
--- One more id is read.
-below-next : (all asks : List Ask) (floor : ℕ) → ((i : ℕ) → i < floor → askOf asks i ≡ askOf all i) → askOf asks floor ≡ askOf all floor
-    → (i : ℕ) → i < suc floor → askOf asks i ≡ askOf all i
-below-next all asks floor b e i h = by (ℕ-discrete i floor)
-  where
-    by : Dec (i ≡ floor) → askOf asks i ≡ askOf all i
-    by (yes q) = rw q e
-    by (no q) = b i (omega arith)
-
 -- An ask in range that does not list its id asks for nothing.
 not-asked : (a : Ask) → AskRange a → isAsked a ≡ false → a ≡ noAsk
 not-asked a (inl r) e = ap₂ (λ (x y : ℕ). record { period = x; bound = y }) (r .0) (r .1)
@@ -153,52 +124,38 @@ asked a (inr r) e = r
 
 module _ (s : List ℕ) (all : List Ask) (range : AsksRange all) where
   -- A written listing is read back from any id on.
-  listing-whole : (n at floor low : ℕ) (asks : List Ask) → floor + n ≡ IDS → low ≤ floor → ReadUpTo all floor asks
-      → drop at s ≡ listingFrom all floor n → ListingRead s (length s) at low asks (record { reading = Whole; asks = all })
-  unfolding listingFrom
+  listing-whole : (n at floor low : ℕ) (asks : List Ask) → floor + n ≡ IDS → low ≤ floor → FilledTo noAsk all floor asks
+      → drop at s ≡ risingFrom (askedBytes all) floor n → ListingRead s (length s) at low asks (record { reading = Whole; asks = all })
+  unfolding risingFrom
   listing-whole zero at floor low asks m l r e =
-      let same : asks ≡ all = ext-getD noAsk asks all (r .count ∙ sym (range .count)) (λ i h. r .below i (omega (arith, r .count))) in
+      let same : asks ≡ all = filled-all noAsk all asks floor r (omega (arith, range .count)) in
       subst (λ (x : List Ask). ListingRead s (length s) at low x (record { reading = Whole; asks = all })) (sym same)
       (ListingRead.none {at = at} (omega (arith, length-drop at s, ap (λ (x : List ℕ). length x) e)))
   listing-whole (suc n) at floor low asks m l r e =
       by (isAsked (askOf all floor)) refl (λ k j x. listing-whole n k (suc floor) j x (omega arith)) e
     where
       by : (t : Bool) → isAsked (askOf all floor) ≡ t
-          → ((k j : ℕ) (x : List Ask) → j ≤ suc floor → ReadUpTo all (suc floor) x → drop k s ≡ listingFrom all (suc floor) n
+          → ((k j : ℕ) (x : List Ask) → j ≤ suc floor → FilledTo noAsk all (suc floor) x → drop k s ≡ risingFrom (askedBytes all) (suc floor) n
           → ListingRead s (length s) k j x (record { reading = Whole; asks = all }))
-          → drop at s ≡ cond t (listedBytes floor (askOf all floor)) [] ++ listingFrom all (suc floor) n
+          → drop at s ≡ cond t (listedBytes floor (askOf all floor)) [] ++ risingFrom (askedBytes all) (suc floor) n
           → ListingRead s (length s) at low asks (record { reading = Whole; asks = all })
       by false q rest e =
           let none = not-asked (askOf all floor) (range .each floor (omega arith)) q in
-          rest at low asks (omega arith)
-          (record {
-            count = r .count;
-            below = below-next all asks floor (r .below) (r .fresh floor (omega arith) ∙ sym none);
-            fresh = λ i h. r .fresh i (omega arith);
-          })
-          e
+          rest at low asks (omega arith) (filled-same noAsk all asks floor r none) e
       by true q rest e =
           let a = askOf all floor in
           let p = asked a (range .each floor (omega arith)) q in
-          let w = listed-back s at floor a (listingFrom all (suc floor) n) (omega arith) (p .0) (p .1) e in
+          let w = listed-back s at floor a (risingFrom (askedBytes all) (suc floor) n) (omega arith) (p .0) (p .1) e in
           ListingRead.more {floor = low} (w .ahead) (w .form) (w .in-range) (omega (arith, w .id-back))
           (subst₂ (λ (i : ℕ) (b : Ask). ListingRead s (length s) (w .next) (suc i) (set asks i b) (record { reading = Whole; asks = all }))
           (sym (w .id-back))
           (sym (w .ask-back))
           (rest (w .next) (suc floor) (set asks floor a) (omega arith)
-          (record {
-            count = length-set asks floor a ∙ r .count;
-            below =
-                below-next all (set asks floor a) floor
-                (λ i h. getD-set-other asks floor i a noAsk (omega arith) ∙ r .below i h)
-                (getD-set-same asks floor a noAsk (omega (arith, r .count)));
-            fresh = fresh-above asks floor a (r .fresh);
-          })
-          (w .after)))
+          (filled-next noAsk all asks floor r a (omega (arith, r .count, range .count)) refl) (w .after)))
 
 -- A request in range, as it is written, is read back whole.
 pub round-trip : (r : Request) → RequestRange r → readRequest (requestRecord r) ≡ record { reading = Whole; request = r }
-unfolding requestRecord listingBytes
+unfolding requestRecord rising
 round-trip r range =
     let s = requestRecord r in
     let slot = field 1 (numberBytes (r .slot .0) 8) in
@@ -206,7 +163,8 @@ round-trip r range =
     let listing = listingBytes (r .asks) IDS in
     let a = number-back s 0 1 8 _ (r .slot .0) (limit ++ listing) (range .slot) (omega (arith, range .slot)) (append-assoc slot limit listing) in
     let b = number-back s 11 2 1 _ (r .limit) listing (range .limit) (omega (arith, range .limit)) (a .1) in
-    let start : ReadUpTo (r .asks) 0 noAsks = record { count = refl; below = λ i h. absurd (omega arith); fresh = λ i h. no-ask i } in
+    let start : FilledTo noAsk (r .asks) 0 noAsks =
+    record { count = sym (range .asks .count); below = λ i h. absurd (omega arith); above = λ i h. no-ask i } in
     request-is s _
     (RequestRead.whole (a .0) (b .0)
-    (listing-whole s (r .asks) (range .asks) IDS 15 0 0 noAsks refl (omega arith) start (b .1 ∙ listing-split (r .asks) 0 IDS)))
+    (listing-whole s (r .asks) (range .asks) IDS 15 0 0 noAsks refl (omega arith) start (b .1 ∙ rising-split (askedBytes (r .asks)) 0 IDS)))

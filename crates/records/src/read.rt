@@ -3,7 +3,7 @@ ghost use lib.ListN.{length};
 ghost use mathlib.Core.Path.{_≡_};
 ghost use Prim.Native.Nat.{_+_, _^_, _≤_, _<_};
 ghost use Rattle.numbers.specs.declared.Refusal.{Refusal};
-ghost use Rattle.records.specs.Request.{contentAt, isField, isListing, listedAs, listedField, noAsks, numberAt, numberField, readListing, readRequest, refusedRequest, withListing};
+ghost use Rattle.records.specs.Request.{contentAt, isListing, listedAs, listedField, noAsks, numberField, readListing, readRequest, refusedRequest, withListing};
 ghost use Rattle.slots.specs.Limits.{LARGEST-K};
 use super::Ask;
 use super::Cursor;
@@ -14,18 +14,21 @@ use super::NumberField;
 use super::ReadRequest;
 use super::Reading;
 use super::Request;
+use super::fields::content_at;
+use super::fields::is_field;
+use super::fields::number_at;
 use numbers::Refusal;
 use slots::CoreSlot;
 use timetable::Timetable;
 
 // The tag of the request slot.
-const SLOT_TAG: u8 = 1;
+pub const SLOT_TAG: u8 = 1;
 
 // The tag of T.
-const LIMIT_TAG: u8 = 2;
+pub const LIMIT_TAG: u8 = 2;
 
 // The tag of a listed partition.
-const LISTED_TAG: u8 = 3;
+pub const LISTED_TAG: u8 = 3;
 
 // Reads a whole request, or gives the number and the place of the first field that is refused.
 pub fn read_request(s: &[u8]) -> ReadRequest
@@ -212,49 +215,4 @@ fn power(k: u8) -> u16
 {
     let one: u16 = 1;
     one << k
-}
-
-// Whether at a place stands a field of this tag and length, not cut off.
-fn is_field(s: &[u8], at: usize, tag: u8, size: u8) -> bool
-    ensures { λ r. ⌜ r ≡ isField (now (s .entry)) at tag size ⌝ }
-{
-    if s.len() < at {
-        return false;
-    }
-    if s.len() - at < 3 + (size as usize) {
-        return false;
-    }
-    if s[at] != tag {
-        return false;
-    }
-    number_at(s, at + 1, 2) == (size as u64)
-}
-
-// Byte n of the content of the field at a place.
-fn content_at(s: &[u8], at: usize, n: usize) -> u8
-    requires { ⌜ at + 3 + n < length (now s) ⌝ }
-    ensures { λ r. ⌜ r ≡ contentAt (now (s .entry)) at n ⌝ }
-{
-    s[at + 3 + n]
-}
-
-// The number that `count` bytes from a place write, big-endian. (Public for the board's image alone.)
-pub fn number_at(s: &[u8], from: usize, count: usize) -> u64
-    requires { ⌜ (from + count ≤ length (now s)) × (count ≤ 8) ⌝ }
-    ensures { λ r. ⌜ r ≡ numberAt (now (s .entry)) from count ⌝ }
-{
-    let mut number: u64 = 0;
-    let mut n: usize = 0;
-    while n < count {
-        number = 256 * number + wide(s[from + n]);
-        n += 1;
-    }
-    number
-}
-
-// A byte as a number.
-fn wide(b: u8) -> u64
-    ensures { λ r. ⌜ (r ≡ b) × (r < 256) ⌝ }
-{
-    b as u64
 }

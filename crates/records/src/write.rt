@@ -4,19 +4,20 @@ ghost use lib.Seq.{sets};
 ghost use mathlib.Core.List.{[], _∷_};
 ghost use mathlib.Core.Path.{_≡_};
 ghost use Prim.Native.Nat.{_+_, _*_, _≤_};
-ghost use Rattle.records.specs.Answer.{answerRecord, field, offsetFields};
+ghost use Rattle.records.specs.Answer.{answerRecord, field, entryFields};
 ghost use Rattle.slots.specs.Limits.{AREA, IDS, LONGEST};
+use super::fields::put_head;
 use timetable::Entry;
 use timetable::Timetable;
 
 // The tag of the transition's length.
-const LENGTH_TAG: u8 = 0x10;
+pub const LENGTH_TAG: u8 = 0x10;
 
 // The tag of its owners.
-const OWNERS_TAG: u8 = 0x11;
+pub const OWNERS_TAG: u8 = 0x11;
 
 // The tag of a listed partition's offset.
-const OFFSET_TAG: u8 = 0x12;
+pub const OFFSET_TAG: u8 = 0x12;
 
 // Writes an answer at the start of the area and gives its length. The bytes after it stay as they were.
 pub fn write_answer(
@@ -33,16 +34,6 @@ pub fn write_answer(
     put_head(area, 4, OWNERS_TAG, size);
     let at = put_owners(area, 7, size, owners);
     put_offsets(area, at, entries)
-}
-
-// The tag and the length of a field.
-fn put_head(area: &mut [u8], at: usize, tag: u8, size: u8)
-    requires { ⌜ at + 3 ≤ length (now area) ⌝ }
-    ensures { λ r. ⌜ now (area .exit) ≡ sets (now (area .entry)) at (tag ∷ 0 ∷ size ∷ []) ⌝ }
-{
-    area[at] = tag;
-    area[at + 1] = 0;
-    area[at + 2] = size;
 }
 
 // The owners of a transition, one byte each, and the place after them. (Public for the board's image alone.)
@@ -62,7 +53,7 @@ pub fn put_owners(area: &mut [u8], from: usize, size: u8, owners: [u8; Timetable
 // The offset of each listed partition, ids rising, and the place after them.
 fn put_offsets(area: &mut [u8], from: usize, entries: [Entry; Timetable::IDS]) -> usize
     requires { ⌜ from + 5 * IDS ≤ length (now area) ⌝ }
-    ensures { λ r. ⌜ (r ≡ from + length (offsetFields entries IDS)) × (now (area .exit) ≡ sets (now (area .entry)) from (offsetFields entries IDS)) ⌝ }
+    ensures { λ r. ⌜ (r ≡ from + length (entryFields entries IDS)) × (now (area .exit) ≡ sets (now (area .entry)) from (entryFields entries IDS)) ⌝ }
 {
     let mut at = from;
     let mut id: u8 = 0;

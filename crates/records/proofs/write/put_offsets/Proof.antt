@@ -8,7 +8,7 @@ use Prim.Native.Nat.{_-_, _≤_}
 use Rattle.records.proofs.AreaLaws.{Stored, offsets-room, stored-listed, stored-same}
 use Rattle.records.proofs.write.put_offsets.Statement.{statement}
 use Rattle.records.proofs.write.put_offsets.Tie as tie
-use Rattle.records.specs.Answer.{offsetFields}
+use Rattle.records.specs.Answer.{rising}
 use Rattle.slots.specs.Limits.{IDS}
 
 abbrev Inv-loop : tie.InvT-loop
@@ -18,7 +18,7 @@ abbrev μ-loop : tie.MeasureT-loop
 μ-loop area₀ from entries at₀ id₀ area at id = IDS - id
 
 loop-holds : tie.Need-loop-holds Inv-loop μ-loop
-unfolding offsetFields
+unfolding rising
 loop-holds c = (omega arith, refl, record { content = refl; place = sym (add-zero _) })
 
 cast-loop : tie.Need-cast-loop Inv-loop μ-loop
