@@ -11,14 +11,13 @@ use Rattle.board.proofs.BoardLaws.{after-accepted, after-refused, answe
 use Rattle.board.proofs.ReadBack.{read-back}
 use Rattle.board.proofs.StoreLaws.{image-length}
 use Rattle.board.specs.Image.{Fits, imageAfter, imageAnswer, imageOf, keptImage}
-use Rattle.change.proofs.Answers.{Gets, accepted, accepted-continues, gets, no-length, no-slot, refused}
+use Rattle.change.proofs.Answers.{accepted-continues}
+use Rattle.change.proofs.Archived.{accepted-owners}
 use Rattle.change.proofs.Histories.{sent-accepted, sent-refused}
-use Rattle.change.proofs.Start.{start-fit}
-use Rattle.change.specs.Change.{answer, startPlan}
+use Rattle.change.specs.Change.{answer}
 use Rattle.change.specs.declared.Answer.{Answer}
 use Rattle.change.specs.Controller.{Sent, historyOf}
 use Rattle.numbers.specs.Numbers.{ACCEPTED}
-use Rattle.records.specs.Request.{readRequest}
 use Rattle.slots.specs.Limits.{IDS, LONGEST}
 use Rattle.timetable.proofs.Listing.{empty-sound}
 use Rattle.timetable.proofs.Ranges.{period-le}
@@ -26,8 +25,6 @@ use Rattle.timetable.proofs.Sound.{Sound, sound-from}
 use Rattle.timetable.specs.declared.Timetable.{Timetable}
 use Rattle.timetable.specs.History.{History, present}
 use Rattle.timetable.specs.Timetable.{emptyTimetable, entryOf, isListed, noEntry}
-use Rattle.transition.proofs.Reach.{reach-fit}
-use Rattle.transition.specs.Transition.{placed}
 
 -- A sound timetable fits.
 sound-fits : (t : Timetable) → Sound t → length (t .owners) ≡ LONGEST → length (t .entries) ≡ IDS → Fits t
@@ -46,21 +43,9 @@ sound-fits t s o n = record {
     small i h false l = rw (s .ranged .blank i h l) (omega arith, omega arith)
 
 module _ (t : Timetable) (s : List ℕ) (area : ℕ) where
-  -- The timetable of an accepted request has 64 owners.
-  accepted-owners : answer t s area .number ≡ ACCEPTED → length (answer t s area .timetable .owners) ≡ LONGEST
-  unfolding placed
-  accepted-owners = at (answer t s area) (gets t s area)
-    where
-      at : (a : Answer) → Gets t s area a → a .number ≡ ACCEPTED → length (a .timetable .owners) ≡ LONGEST
-      at a (refused q e l h) z = absurd (omega arith)
-      at a (accepted e p k l b q h ps f) z =
-          reach-fit k 0 (startPlan t (readRequest s .request)) q (start-fit t (readRequest s .request) (p .range) (p .fine)) (omega (arith, p .range .limit)) h .places
-      at a (no-slot e p k l b q h f) z = absurd (omega arith)
-      at a (no-length e p b) z = absurd (omega arith)
-
-  -- It fits.
+  -- The timetable of an accepted request fits.
   pub accepted-fits : answer t s area .number ≡ ACCEPTED → Fits (answer t s area .timetable)
-  accepted-fits e = let c = accepted-continues t s area e in sound-fits _ (c .sound) (accepted-owners e) (c .shape)
+  accepted-fits e = let c = accepted-continues t s area e in sound-fits _ (c .sound) (accepted-owners t s area e) (c .shape)
 
 -- The timetable in force fits.
 present-fits : (qs : List Sent) → Fits (present (historyOf qs))

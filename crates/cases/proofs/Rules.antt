@@ -4,7 +4,7 @@ use Rattle.change.specs.Stages.{askedBound, entering, startEntries, weightSum, 
 use Rattle.frames.specs.Program.{isFrame, frameContent, frameRest, digits, decimal, answeredLength, lineOf, line, linesFrom, programLines}
 use Rattle.numbers.specs.Chain.{orElse, firstOf, refusedAt}
 use Rattle.placement.specs.Placement.{demandOf, comesBefore, insert, ordered, isTaken, allFree, lastFree, placeFrom, placement, settle}
-use Rattle.records.specs.Answer.{field, offsetFields, answerRecord}
+use Rattle.records.specs.Answer.{field, rising, answerRecord}
 use Rattle.records.specs.Request.{numberAt, lengthAt, contentAt, isField, numberField, isListing, listedAs, listedField, readListing, refusedRequest, withListing, readRequest}
 use Rattle.slots.specs.Below.{every, first}
 use Rattle.slots.specs.Shortfall.{weightOf, overSlot, keeps, roomOf, lastOffsetOf}
@@ -14,5 +14,5 @@ use Rattle.timetable.specs.Timetable.{each, cyclic, shortfallAfter, shortfallAt
 use Rattle.transition.specs.Transition.{moreUrgent, mostUrgent, isMissed, overAll, longer, ended, passed, placed, searchFrom}
 
 unfoldable pub rules : Unit {0}
-unfolding numberOf placeOf timetableOf startPlan searchOf answerOf answerTo answer recordOf orElse firstOf refusedAt askedBound entering startEntries weightSum overfull isBehind behind stageSound stageArea stageFields stageEarly stageOverfull stageBehind stagesFirst stagesListed verdictBefore isFrame frameContent frameRest digits decimal answeredLength lineOf line linesFrom programLines demandOf comesBefore insert ordered isTaken allFree lastFree placeFrom placement settle field offsetFields answerRecord numberAt lengthAt contentAt isField numberField isListing listedAs listedField readListing refusedRequest withListing readRequest every first weightOf overSlot keeps roomOf lastOffsetOf isOwner own shortfall requestInRange lengthInRange baseAsStated ownersListed isPeriod isBound entryInRange entryBlank entriesInRange shareNone noneShared unusedOwnersZero isSound each cyclic shortfallAfter shortfallAt moreUrgent mostUrgent isMissed overAll longer ended passed placed searchFrom
+unfolding numberOf placeOf timetableOf startPlan searchOf answerOf answerTo answer recordOf orElse firstOf refusedAt askedBound entering startEntries weightSum overfull isBehind behind stageSound stageArea stageFields stageEarly stageOverfull stageBehind stagesFirst stagesListed verdictBefore isFrame frameContent frameRest digits decimal answeredLength lineOf line linesFrom programLines demandOf comesBefore insert ordered isTaken allFree lastFree placeFrom placement settle field rising answerRecord numberAt lengthAt contentAt isField numberField isListing listedAs listedField readListing refusedRequest withListing readRequest every first weightOf overSlot keeps roomOf lastOffsetOf isOwner own shortfall requestInRange lengthInRange baseAsStated ownersListed isPeriod isBound entryInRange entryBlank entriesInRange shareNone noneShared unusedOwnersZero isSound each cyclic shortfallAfter shortfallAt moreUrgent mostUrgent isMissed overAll longer ended passed placed searchFrom
 rules = tt
