@@ -11,6 +11,7 @@ use native.Mathlib.Decide.{decLt}
 use native.Mathlib.Omega.{arith}
 use Prim.Native.Nat.{ℕ, suc, _+_, _-_, _*_, _≤_, _<_}
 use Rattle.change.proofs.Answers.{Gets, refused, accepted, no-slot, no-length, gets, accepted-continues, record-accepted, record-none, refusal-number}
+use Rattle.change.proofs.Archived.{accepted-read}
 use Rattle.change.proofs.Histories.{history-valid}
 use Rattle.change.proofs.GivenLaws.{at-request, gives, wanting-number}
 use Rattle.change.proofs.OneGiven.{gives-one}
@@ -29,13 +30,19 @@ use Rattle.placement.proofs.Complete.{placement-none, placement-some}
 use Rattle.placement.specs.Any.{CyclicPlacement}
 use Rattle.placement.specs.Placement.{Place, placement}
 use Rattle.promises.proofs.Lengths.{accepted-iff, exhausted-iff, missed-iff, passed-number, refused-iff}
-use Rattle.promises.specs.Promises.{SoundStays, Windows, OneOwner, PlacementComplete, Passes, Shortest, Tries, Stages, OneForm, KeptShortfall, Queries, Exact, Figures, LargerT, RaisingT}
+use Rattle.promises.specs.Promises.{SoundStays, Windows, OneOwner, PlacementComplete, Passes, Shortest, Tries, Stages, OneForm, KeptShortfall, Queries, Exact, Figures, LargerT, RaisingT, AnswersRead, RequestsWritten}
+use Rattle.records.proofs.AnswerBack.{answer-back}
+use Rattle.records.proofs.AnswerForms.{answer-form, answer-owner, answer-range}
 use Rattle.records.proofs.AnswerLaws.{answer-length}
+use Rattle.records.proofs.AnswerSteps.{answer-damaged, answer-is, answer-read, field-is, field-read}
 use Rattle.records.proofs.OneForm.{one-form}
 use Rattle.records.proofs.ReadLaws.{read-in-range, refused-in-range}
 use Rattle.records.proofs.ReadSteps.{as-read, read-alike, request-is, request-read}
+use Rattle.records.proofs.RequestPlaces.{request-written, request-written-one}
 use Rattle.records.proofs.RoundTrip.{round-trip}
-use Rattle.records.proofs.SetsLaws.{sets-rest}
+use Rattle.records.proofs.SetsLaws.{sets-rest, sets-taken}
+use Rattle.records.proofs.WrittenBack.{accepted-whole, handed-lists, written-back}
+use Rattle.records.specs.AnswerRead.{readAnswer}
 use Rattle.records.specs.declared.ReadRequest.{ReadRequest}
 use Rattle.numbers.specs.declared.Refusal.{Refusal}
 use Rattle.numbers.specs.declared.Verdict.{Verdict}
@@ -332,4 +339,32 @@ raising-T t s s′ area larger = record {
   again = raised-again t s s′ area larger;
   longer = raised-longer t s s′ area larger;
   later = raised-later t s s′ area larger;
+}
+
+-- ---- 14 and 15
+
+pub answers-read : AnswersRead
+unfolding outcome areaAfter
+answers-read = record {
+  given = λ s at. answer-read s at;
+  only = λ s at x d. answer-is s d;
+  damaged = λ s r e. answer-damaged s r e;
+  one = λ s e. answer-form s e;
+  range = λ s e. answer-range s e;
+  back = λ x r. answer-back x r;
+  changed = λ t s area e.
+      let record-of = recordOf (answer t s (length area)) in
+      ap readAnswer (sets-taken area record-of (length record-of) refl (held t s (length area) .fits)) ∙ accepted-read t s (length area) e;
+  field = λ s at. field-read s at;
+  field-only = λ s at x d. field-is s d;
+  owner = λ s e n. answer-owner s e n;
+}
+
+pub requests-written : RequestsWritten
+requests-written = record {
+  given = λ slot limit listing area. request-written slot limit listing area;
+  one = λ slot limit listing area r r′ out out′ a b. request-written-one slot limit listing area a b;
+  read = λ slot limit listing area e.
+      let l = handed-lists slot limit listing (accepted-whole slot limit listing area e) in
+      rw (written-back slot limit listing area e) (record { read = refl; same-slot = l .0; same-limit = l .1; lists = l .2 });
 }

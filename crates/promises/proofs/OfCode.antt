@@ -1,10 +1,10 @@
 -- The demands hold of the code: what meets the contract is what the promises speak of, and a controller made of such calls has the history of its requests.
 -- Assumes nothing.
-use lib.ListN.{length}
+use lib.ListN.{length, take}
 use mathlib.Core.Bool.{true}
 use mathlib.Core.List.{List, [], _∷_}
 use mathlib.Core.Logic.{_≢_, inl, inr}
-use mathlib.Core.Path.{_≡_, refl, sym, ap, _∙_, subst}
+use mathlib.Core.Path.{_≡_, refl, sym, ap, _∙_, subst, subst₂}
 use Prim.Native.Nat.{ℕ}
 use native.Mathlib.Omega.{arith}
 use Rattle.change.proofs.Answers.{refusal-number}
@@ -17,14 +17,19 @@ use Rattle.change.specs.Given.{Accepted, Gives, early, schedule, wanting}
 use Rattle.change.specs.Queried.{OwnerGiven, StandingGiven}
 use Rattle.change.specs.Refused.{StagesSay}
 use Rattle.records.proofs.ReadSteps.{as-read, read-alike}
-use Rattle.promises.proofs.Kept.{exact, kept-shortfall, one-owner, queries, raising-T, shortest, sound-stays, stages-kept, windows}
-use Rattle.promises.specs.OfCode.{Meets, Serves, start, accepts, refuses, DemandOne, DemandTwo, DemandThree, DeficitMeans, QueriesOfCode, RaisingTOfCode}
-use Rattle.promises.specs.Promises.{QueriesTell, RaisedT, ServesOne, ShortestOf, ShortfallMeans, WindowsKept}
+use Rattle.promises.proofs.Kept.{answers-read, exact, kept-shortfall, one-owner, queries, raising-T, requests-written, shortest, sound-stays, stages-kept, windows}
+use Rattle.promises.specs.OfCode.{Meets, Serves, start, accepts, refuses, DemandOne, DemandTwo, DemandThree, DeficitMeans, QueriesOfCode, RaisingTOfCode, ArchiveOfCode}
+use Rattle.promises.specs.Promises.{QueriesTell, RaisedT, ReadAs, ServesOne, ShortestOf, ShortfallMeans, WindowsKept}
+use Rattle.records.specs.AnswerRead.{noSchedule, readAnswer, scheduleOf}
+use Rattle.records.specs.AnswerReads.{AnswerRead, FieldRead}
+use Rattle.records.specs.declared.Reading.the-variants.{Whole}
 use Rattle.records.specs.declared.ReadRequest.{ReadRequest}
+use Rattle.records.specs.declared.Writing.{Writing}
 use Rattle.numbers.specs.declared.Verdict.the-variants.{Refused}
 use Rattle.numbers.specs.Numbers.{ACCEPTED, SLOT-MISSED, LENGTHS-EXHAUSTED}
 use Rattle.records.specs.Reads.{RequestRead}
 use Rattle.records.specs.Request.{readRequest}
+use Rattle.records.specs.Writes.{RequestWritten}
 use Rattle.timetable.specs.declared.Timetable.{Timetable}
 use Rattle.timetable.specs.History.{History, present}
 use Rattle.timetable.specs.Sound.{isSound}
@@ -113,4 +118,29 @@ queries-of-code = record {
   standing = λ t i x r. ((λ e. subst (StandingGiven t i x) (sym e) (queries .standing t i x)), (λ g. sym (queries .standing-only t i x r g)));
   owner-run = λ h v x l b r e. e ∙ of-controller QueriesTell (queries .tell) h v .owner x l b;
   standing-run = λ h v i x k l b li r e. e ∙ of-controller QueriesTell (queries .tell) h v .standing i x k l b li;
+}
+
+pub archive-of-code : ArchiveOfCode
+archive-of-code = record {
+  answer = λ s at x. (
+    (λ e. subst (AnswerRead s at noSchedule) (sym e) (answers-read .given s at)),
+    (λ d. sym (answers-read .only s at x d)),
+  );
+  field = λ s at x. (
+    (λ e. subst (FieldRead s at) (sym e) (answers-read .field s at)),
+    (λ d. sym (answers-read .field-only s at x d)),
+  );
+  owner = λ s e n o told. told ∙ answers-read .owner s e n;
+  changed = λ t s area r out m e x read.
+      read
+      ∙ of-code t s area r out m
+      (λ (o : Outcome) (a : List ℕ). o .number ≡ ACCEPTED → readAnswer (take (o .written) a) ≡ record { reading = Whole; schedule = scheduleOf (o .timetable) })
+      (answers-read .changed t s area) e;
+  request = λ slot limit listing area w out. (
+    (λ m. subst₂ (RequestWritten slot limit listing area) (sym (m .0)) (sym (m .1)) (requests-written .given slot limit listing area)),
+    (λ d. requests-written .one slot limit listing area w _ out _ d (requests-written .given slot limit listing area)),
+  );
+  read = λ slot limit listing area w out m n e.
+      subst₂ (λ (v : Writing) (a : List ℕ). v .number ≡ ACCEPTED → ReadAs slot limit listing (readRequest (take (v .written) a))) (sym m) (sym n)
+      (requests-written .read slot limit listing area) e;
 }

@@ -1,5 +1,5 @@
--- docs/RULES.md 1.4 to 1.8, demands 1 to 3 and what lab, service screen and desk read, of the code: of whatever meets the contract of `change` or of a query, and of a controller that is made of such calls.
-use lib.ListN.{length}
+-- docs/RULES.md 1.4 to 1.9, demands 1 to 3 and what lab, service screen, desk and lab network read, of the code: of whatever meets the contract of `change`, of a query, of the reader of answers or the writer of requests, and of a controller that is made of such calls.
+use lib.ListN.{getD, length, take}
 use mathlib.Core.Bool.{true}
 use mathlib.Core.List.{List, [], _∷_}
 use mathlib.Core.Logic.{_↔_, _≢_}
@@ -13,13 +13,21 @@ use Rattle.change.specs.Given.{Accepted, Gives, refusedWith}
 use Rattle.change.specs.Queried.{OwnerGiven, StandingGiven, ownerAnswer, standingAnswer}
 use Rattle.change.specs.Queries.{ownerQuery, standingQuery}
 use Rattle.change.specs.Refused.{StagesSay}
-use Rattle.promises.specs.Promises.{LargerT, Passes, RaisedT, ServesOne, ShortestOf, ShortfallMeans, WindowsKept}
+use Rattle.promises.specs.Promises.{LargerT, Passes, RaisedT, ReadAs, ServesOne, ShortestOf, ShortfallMeans, WindowsKept}
+use Rattle.records.specs.AnswerRead.{fieldAt, noSchedule, toldOwner, readAnswer, readFrom, scheduleOf}
+use Rattle.records.specs.AnswerReads.{AnswerRead, FieldRead}
+use Rattle.records.specs.declared.AnswerStep.{AnswerStep}
+use Rattle.records.specs.declared.ReadAnswer.{ReadAnswer}
+use Rattle.records.specs.declared.Reading.the-variants.{Whole}
 use Rattle.records.specs.declared.ReadRequest.{ReadRequest}
+use Rattle.records.specs.declared.Writing.{Writing}
 use Rattle.numbers.specs.declared.Refusal.{Refusal}
 use Rattle.numbers.specs.declared.Verdict.the-variants.{Passed, Refused}
 use Rattle.numbers.specs.Numbers.{ACCEPTED, SLOT-MISSED, LENGTHS-EXHAUSTED}
 use Rattle.records.specs.Reads.{RequestRead}
 use Rattle.records.specs.Request.{readRequest}
+use Rattle.records.specs.Writes.{RequestWritten}
+use Rattle.records.specs.Written.{areaWritten, writeRequest}
 use Rattle.slots.specs.Clocks.{coreSlot, sliceCount}
 use Rattle.slots.specs.declared.CoreSlot.{CoreSlot}
 use Rattle.slots.specs.Limits.{IDS, LAST-SLOT}
@@ -93,3 +101,16 @@ pub record QueriesOfCode : Type 0 where
   pub standing-run : (h : History) → Serves h → (i x : ℕ) → i < IDS → x ≤ LAST-SLOT → present h .base .0 ≤ x → lists (present h) i ≡ true
       → (r : StandingAnswer) → r ≡ standingQuery (present h) i (coreSlot x)
       → r ≡ standingAnswer ACCEPTED (shortfall (runOf h) i x) (sliceCount (supply (runOf h) i (present h .base .0) (x - present h .base .0)))
+
+-- What the lab network reads and writes: a record is read as the rules say and only so, whole, from any place on and a field at a time, and what a `change` wrote is read as the schedule of its timetable;
+-- a request is written as the rules say and only so, and the controller reads what was written as the same slot, T and listing.
+pub record ArchiveOfCode : Type 0 where
+  pub answer : (s : List ℕ) (at : ℕ) (x : ReadAnswer) → (x ≡ readFrom s at) ↔ AnswerRead s at noSchedule x
+  pub field : (s : List ℕ) (at : ℕ) (x : AnswerStep) → (x ≡ fieldAt s at) ↔ FieldRead s at x
+  pub owner : (s : List ℕ) → readAnswer s .reading ≡ Whole → (n o : ℕ) → o ≡ toldOwner s n → o ≡ getD (readAnswer s .schedule .owners) n 0
+  pub changed : (t : Timetable) (s area : List ℕ) (r : Outcome) (out : List ℕ) → Meets t s area r out → r .number ≡ ACCEPTED
+      → (x : ReadAnswer) → x ≡ readAnswer (take (r .written) out) → x ≡ record { reading = Whole; schedule = scheduleOf (r .timetable) }
+  pub request : (slot : CoreSlot) (limit : ℕ) (listing area : List ℕ) (w : Writing) (out : List ℕ)
+      → ((w ≡ writeRequest slot limit listing (length area)) × (out ≡ areaWritten slot limit listing area)) ↔ RequestWritten slot limit listing area w out
+  pub read : (slot : CoreSlot) (limit : ℕ) (listing area : List ℕ) (w : Writing) (out : List ℕ) → w ≡ writeRequest slot limit listing (length area)
+      → out ≡ areaWritten slot limit listing area → w .number ≡ ACCEPTED → ReadAs slot limit listing (readRequest (take (w .written) out))

@@ -1,6 +1,6 @@
--- docs/RULES.md 1.4 to 1.8: the promises, as statements about the definitions. Each speaks of the slots and of the rules, never of how something is
+-- docs/RULES.md 1.4 to 1.9: the promises, as statements about the definitions. Each speaks of the slots and of the rules, never of how something is
 -- computed; proofs/Kept.antt proves each under its name. Two wrong programs that a promise shuts out stand under it.
-use lib.ListN.{getD, length}
+use lib.ListN.{getD, length, take}
 use mathlib.Core.Bool.{true}
 use mathlib.Core.List.{List, [], _∷_}
 use mathlib.Core.Logic.{_↔_, _≢_, _⊎_}
@@ -19,15 +19,22 @@ use Rattle.change.specs.Refused.{StagesSay}
 use Rattle.change.specs.Stages.{startEntries}
 use Rattle.placement.specs.Any.{CyclicPlacement, NoPlacement}
 use Rattle.placement.specs.Placement.{Place, placement, settle}
+use Rattle.records.specs.AnswerRead.{fieldAt, noSchedule, readAnswer, readFrom, scheduleOf, scheduleRecord, toldOwner}
+use Rattle.records.specs.AnswerReads.{AnswerRead, FieldRead, ScheduleRange}
+use Rattle.records.specs.declared.AnswerStep.{AnswerStep}
+use Rattle.records.specs.declared.ReadAnswer.{ReadAnswer}
 use Rattle.records.specs.declared.Reading.the-variants.{Whole, Refused as unread}
 use Rattle.records.specs.declared.ReadRequest.{ReadRequest}
 use Rattle.numbers.specs.declared.Refusal.{Refusal}
 use Rattle.numbers.specs.declared.Verdict.the-variants.{Passed, Refused}
 use Rattle.records.specs.declared.Request.{Request}
+use Rattle.records.specs.declared.Schedule.{Schedule}
+use Rattle.records.specs.declared.Writing.{Writing}
 use Rattle.numbers.specs.Numbers.{ACCEPTED, NOT-SOUND, SMALL-AREA, BAD-FIELD, OUT-OF-RANGE, NOT-RISING, TOO-EARLY, OVERFULL, BEHIND, SLOT-MISSED, NOT-LISTED, LENGTHS-EXHAUSTED}
 use Rattle.records.specs.Reads.{Bytes, RequestRange, RefusalRange, RequestRead}
 use Rattle.records.specs.Request.{readRequest}
-use Rattle.records.specs.Written.{requestRecord}
+use Rattle.records.specs.Writes.{ListsEntries, RequestWritten}
+use Rattle.records.specs.Written.{areaWritten, requestRecord, writeRequest}
 use Rattle.slots.specs.Below.{count}
 use Rattle.slots.specs.Clocks.{coreSlot, sliceCount}
 use Rattle.slots.specs.declared.CoreSlot.{CoreSlot}
@@ -211,3 +218,38 @@ pub record RaisedT (limit : ℕ) (r : Outcome) (out : List ℕ) (r′ : Outcome)
 abbrev pub RaisingT : Type 0
 RaisingT = (t : Timetable) (s s′ area : List ℕ) → LargerT s s′
     → RaisedT (readRequest s .request .limit) (outcome t s area) (areaAfter t s area) (outcome t s′ area) (areaAfter t s′ area)
+
+-- 14. Reading an answer. Each record is read, or refused 3 at the one place, as its fields say, from its start and from any place on; one that is read is the one record of what was read, and
+-- what was read is in range; a schedule in range is read back from its record; and reading what a change wrote gives back the new timetable's length,
+-- owners and offsets. (Shuts out: an id that equals the one before let through; bytes after the last field ignored; a fault told at the next field's place.)
+pub record AnswersRead : Type 0 where
+  pub given : (s : List ℕ) (at : ℕ) → AnswerRead s at noSchedule (readFrom s at)
+  pub only : (s : List ℕ) (at : ℕ) (x : ReadAnswer) → AnswerRead s at noSchedule x → readFrom s at ≡ x
+  pub damaged : (s : List ℕ) (r : Refusal) → readAnswer s .reading ≡ unread r → (r .number ≡ BAD-FIELD) × (r .place ≤ length s)
+  pub one : (s : List ℕ) → readAnswer s .reading ≡ Whole → s ≡ scheduleRecord (readAnswer s .schedule)
+  pub range : (s : List ℕ) → readAnswer s .reading ≡ Whole → ScheduleRange (readAnswer s .schedule)
+  pub back : (x : Schedule) → ScheduleRange x → readAnswer (scheduleRecord x) ≡ record { reading = Whole; schedule = x }
+  pub changed : (t : Timetable) (s area : List ℕ) → outcome t s area .number ≡ ACCEPTED
+      → readAnswer (take (outcome t s area .written) (areaAfter t s area)) ≡ record { reading = Whole; schedule = scheduleOf (outcome t s area .timetable) }
+  -- a field at a time: what stands at a place is one thing, and it is what the reader tells there; and the owner that it tells for a slot is the one read
+  pub field : (s : List ℕ) (at : ℕ) → FieldRead s at (fieldAt s at)
+  pub field-only : (s : List ℕ) (at : ℕ) (x : AnswerStep) → FieldRead s at x → fieldAt s at ≡ x
+  pub owner : (s : List ℕ) → readAnswer s .reading ≡ Whole → (n : ℕ) → toldOwner s n ≡ getD (readAnswer s .schedule .owners) n 0
+
+-- A request that was read whole, as this slot, T and listing.
+pub record ReadAs (slot : CoreSlot) (limit : ℕ) (listing : List ℕ) (x : ReadRequest) : Type 0 where
+  pub read : x .reading ≡ Whole
+  pub same-slot : x .request .slot ≡ slot
+  pub same-limit : x .request .limit ≡ limit
+  pub lists : ListsEntries listing (x .request .asks)
+
+-- 15. Writing a request. What is returned and the area afterwards are what the rules give, case by case, and those leave one of each; and the controller
+-- reads what was written as the same slot and T, and as a listing that asks for each entry's id what the entry says, and for no other id anything.
+-- (Shuts out: a short field written for R 1; the area looked at before the entries; a cut-short entry dropped.)
+pub record RequestsWritten : Type 0 where
+  pub given : (slot : CoreSlot) (limit : ℕ) (listing area : List ℕ)
+      → RequestWritten slot limit listing area (writeRequest slot limit listing (length area)) (areaWritten slot limit listing area)
+  pub one : (slot : CoreSlot) (limit : ℕ) (listing area : List ℕ) (r r′ : Writing) (out out′ : List ℕ) → RequestWritten slot limit listing area r out
+      → RequestWritten slot limit listing area r′ out′ → (r ≡ r′) × (out ≡ out′)
+  pub read : (slot : CoreSlot) (limit : ℕ) (listing area : List ℕ) → writeRequest slot limit listing (length area) .number ≡ ACCEPTED
+      → ReadAs slot limit listing (readRequest (take (writeRequest slot limit listing (length area) .written) (areaWritten slot limit listing area)))
