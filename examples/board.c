@@ -1,24 +1,17 @@
 /* The library as a firmware uses it: a dispatcher beside a task that changes the timetable by cases A, C and E (docs/RULES.md 11.A, 11.C and 11.E),
- * where C with the longest T is answered as B is, and a stored image at a start. The interrupts are plain calls here. See include/tarnflaw.h. Compiles
- * as C99 and as C++11. */
+ * where C with the longest T is answered as B is; an answer that is archived and read; and a stored image at a start. The interrupts are plain calls
+ * here. See include/tarnflaw.h. Compiles as C99 and as C++11. */
 #include <signal.h>
 #include <stdio.h>
 #include <string.h>
 
 #include "tarnflaw.h"
 
-/* The fields of a request: the request slot (below 256 here), T, and a partition with its period 2^k and its bound. */
-#define SLOT(slot) 1, 0, 8, 0, 0, 0, 0, 0, 0, 0, slot
-#define LIMIT(t) 2, 0, 1, t
-#define LIST(id, k, bound) 3, 0, 3, id, k, bound
-#define LIMIT_AT 14 /* the byte of a request that has T */
-
-static const uint8_t case_a[] = { SLOT(0), LIMIT(0), LIST(0, 2, 1), LIST(1, 2, 1) };
-static const uint8_t case_c[] = { SLOT(6), LIMIT(0), LIST(0, 2, 1), LIST(1, 2, 1), LIST(2, 1, 2) };
-static const uint8_t case_e[] = { SLOT(9), LIMIT(0), LIST(0, 2, 1), LIST(1, 2, 1), LIST(2, 1, 1) };
-static const uint8_t case_e_3[] = { SLOT(9), LIMIT(3), LIST(0, 2, 1), LIST(1, 2, 1), LIST(2, 1, 1) };
-static const uint8_t past[] = { SLOT(8), LIMIT(0), LIST(0, 2, 1), LIST(1, 2, 1) };
-static const uint8_t ahead[] = { SLOT(12), LIMIT(0), LIST(0, 2, 1), LIST(1, 2, 1) };
+/* What cases A, C and E list, three bytes a partition: id, k (its period is 2^k) and R; and a listing with an id twice. */
+static const uint8_t listed_a[] = { 0, 2, 1, 1, 2, 1 };
+static const uint8_t listed_c[] = { 0, 2, 1, 1, 2, 1, 2, 1, 2 };
+static const uint8_t listed_e[] = { 0, 2, 1, 1, 2, 1, 2, 1, 1 };
+static const uint8_t listed_twice[] = { 0, 2, 1, 1, 2, 1, 1, 2, 1 };
 
 /* Two images. The task writes the one that is not in force, unless it waits; the dispatcher takes it over at its request slot. */
 enum { TAKEN, WAITING, LATE };
@@ -58,32 +51,61 @@ static uint8_t dispatch(uint64_t slot)
     return TARNFLAW_IDLE;
 }
 
-/* Asks for a change of an image, and prints what is returned and told. Returns the number. */
-static uint8_t ask(const char *name, uint8_t *image, const uint8_t *request, size_t request_size)
-{
-    uint8_t area[TARNFLAW_AREA];
-    size_t place, written;
-    uint8_t tries;
-    const uint8_t number = tarnflaw_change(image, TARNFLAW_IMAGE, request, request_size, area, sizeof area, &place, &tries, &written);
+/* The answer of the last change that was accepted, as an archive keeps it: the bytes that were written, and how many. (A firmware archives it once its
+ * copy is TAKEN: the answer of a copy that is LATE was never in force. It keeps a checksum, the request and the version beside it.) */
+static uint8_t archived[TARNFLAW_AREA];
+static size_t archived_size;
 
+/* Prints the archived answer, a field at a time, up to its end or to the field that is refused: the number tells which. */
+static void print_archived(void)
+{
+    size_t at = 0, place, i;
+    uint8_t number, tag, first, second;
+
+    printf(" ");
+    do {
+        number = tarnflaw_answer_field(archived, archived_size, &at, &place, &tag, &first, &second);
+        if (tag == TARNFLAW_LENGTH_FIELD)
+            printf(" length %u", first);
+        if (tag == TARNFLAW_OWNERS_FIELD) {
+            printf(first > 0 ? ", owners" : ", no owners");
+            for (i = at - first; i < at; i++)
+                printf(" %u", archived[i]);
+        }
+        if (tag == TARNFLAW_OFFSET_FIELD)
+            printf(", id %u at offset %u", first, second);
+    } while (tag != TARNFLAW_NO_FIELD);
+    if (number != TARNFLAW_ACCEPTED)
+        printf("; no answer, %u, place %zu", number, place);
+    printf("\n");
+}
+
+/* Writes a request, asks for the change of an image, and keeps the answer. Prints what is returned and told. Returns the number. */
+static uint8_t ask(const char *name, uint8_t *image, uint64_t slot, uint8_t limit, const uint8_t *listed, size_t listed_size)
+{
+    uint8_t request[TARNFLAW_REQUEST], area[TARNFLAW_AREA];
+    size_t place, size, written;
+    uint8_t tries;
+    uint8_t number = tarnflaw_write_request(slot, limit, listed, listed_size, request, sizeof request, &place, &size);
+
+    if (number != TARNFLAW_ACCEPTED) {
+        printf("%s: no request, %u, place %zu\n", name, number, place);
+        return number;
+    }
+    number = tarnflaw_change(image, TARNFLAW_IMAGE, request, size, area, sizeof area, &place, &tries, &written);
     printf("%s: %u, place %zu, tries %u, %zu bytes\n", name, number, place, tries, written);
+    if (number == TARNFLAW_ACCEPTED) {
+        memcpy(archived, area, written);
+        archived_size = written;
+        print_archived();
+    }
     return number;
 }
 
-/* Asks once more, with the longest T. (A firmware that can't bear so long a transition has a limit of its own.) The request was read, and so it has
- * at most TARNFLAW_REQUEST bytes. */
-static uint8_t ask_longest(uint8_t *image, const uint8_t *request, size_t request_size)
-{
-    uint8_t raised[TARNFLAW_REQUEST];
-
-    memcpy(raised, request, request_size);
-    raised[LIMIT_AT] = TARNFLAW_LONGEST;
-    return ask("the same with the longest T", image, raised, request_size);
-}
-
-/* The task's change, on a copy of the image in force. If all lengths up to T were searched in vain, it tries a larger T; if a slot is missed, no T
- * helps. If the change is accepted, the copy waits for its request slot. */
-static void change(const char *name, const uint8_t *request, size_t request_size)
+/* The task's change, on a copy of the image in force. If all lengths up to T were searched in vain, it asks once more, with the longest T. (A firmware
+ * that can't bear so long a transition has a limit of its own.) If a slot is missed, no T helps. If the change is accepted, the copy waits for its
+ * request slot. */
+static void change(const char *name, uint64_t slot, uint8_t limit, const uint8_t *listed, size_t listed_size)
 {
     uint8_t number;
     int next;
@@ -94,13 +116,30 @@ static void change(const char *name, const uint8_t *request, size_t request_size
     }
     next = !in_force; /* not before: until here the dispatcher may have stored it */
     memcpy(images[next], images[in_force], TARNFLAW_IMAGE);
-    number = ask(name, images[next], request, request_size);
-    if (number == TARNFLAW_LENGTHS_EXHAUSTED && request[LIMIT_AT] < TARNFLAW_LONGEST)
-        number = ask_longest(images[next], request, request_size);
+    number = ask(name, images[next], slot, limit, listed, listed_size);
+    if (number == TARNFLAW_LENGTHS_EXHAUSTED && limit < TARNFLAW_LONGEST)
+        number = ask("the same with the longest T", images[next], slot, TARNFLAW_LONGEST, listed, listed_size);
     if (number == TARNFLAW_SLOT_MISSED || number == TARNFLAW_LENGTHS_EXHAUSTED)
         printf("no T helps: a later slot, a larger R or a smaller share may\n");
     if (number == TARNFLAW_ACCEPTED)
         copy = WAITING;
+}
+
+/* Reads the archived answer whole, and prints what it says of the transition and how many ids it lists, or why it is refused. */
+static void read_archived(const char *name)
+{
+    uint8_t schedule[TARNFLAW_SCHEDULE];
+    size_t place;
+    unsigned id, listed = 0;
+    const uint8_t number = tarnflaw_read_answer(archived, archived_size, schedule, sizeof schedule, &place);
+
+    printf("%s: %u, place %zu", name, number, place);
+    if (number == TARNFLAW_ACCEPTED) {
+        for (id = 0; id < TARNFLAW_IDS; id++)
+            listed += schedule[65 + id];
+        printf(", length %u, %u ids", schedule[0], listed);
+    }
+    printf("\n");
 }
 
 /* Lets the slots from one to another begin. Prints who has them, what became of the copy, and how many slots were refused. */
@@ -188,22 +227,29 @@ int main(void)
     struct stored s;
 
     tarnflaw_empty(images[in_force], TARNFLAW_IMAGE);
-    change("A, for slot 0", case_a, sizeof case_a);
+    change("A, for slot 0", 0, 0, listed_a, sizeof listed_a);
     run(0, 1);
-    change("C, for slot 6", case_c, sizeof case_c);
-    change("another, while that waits", ahead, sizeof ahead);
+    change("an id twice", 6, 0, listed_twice, sizeof listed_twice);
+    change("C, for slot 6", 6, 0, listed_c, sizeof listed_c);
+    change("another, while that waits", 12, 0, listed_a, sizeof listed_a);
+    read_archived("C's answer, read whole");
+    archived[7]++;
+    read_archived("with another owner, which leaves its form");
+    archived[archived_size - 2] = 0;
+    read_archived("with its last id at 0");
+    print_archived();
     run(2, 8);
-    change("E, for slot 9", case_e, sizeof case_e);
-    change("E with T 3", case_e_3, sizeof case_e_3);
+    change("E, for slot 9", 9, 0, listed_e, sizeof listed_e);
+    change("E with T 3", 9, 3, listed_e, sizeof listed_e);
 
     memcpy(s.image, images[in_force], TARNFLAW_IMAGE);
     s.version = TARNFLAW_IMAGE_VERSION;
     s.slot = 9;
     s.sum = sum_of(&s);
 
-    change("id 2 leaves, for slot 8, which has begun", past, sizeof past);
+    change("id 2 leaves, for slot 8, which has begun", 8, 0, listed_a, sizeof listed_a);
     run(9, 10);
-    change("once more, for slot 12", ahead, sizeof ahead);
+    change("once more, for slot 12", 12, 0, listed_a, sizeof listed_a);
     run(11, 15);
     starts(&s);
     return 0;

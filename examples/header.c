@@ -1,5 +1,5 @@
-/* What include/tarnflaw.h says, tried: each number and each limit, the order in which queries refuse, the forms of image, request and answer, and
- * what soundness does not notice. Compiles as C99 and as C++11. */
+/* What include/tarnflaw.h says, tried: each number and each limit, the order in which functions refuse, the forms of image, schedule, request and answer,
+ * reading answers and writing requests, and what soundness does not notice. Compiles as C99 and as C++11. */
 #include <stdio.h>
 #include <string.h>
 
@@ -107,30 +107,39 @@ static void show_record(const uint8_t *record, size_t size)
     }
 }
 
-/* Prints the parts of the image at their bytes, the last four those of id 2. */
-static void show_image(void)
-{
-    static const struct { const char *name; size_t first, size; } parts[] = {
-        { "request slot", 0, 8 }, { "transition length", 8, 1 }, { "owners", 9, TARNFLAW_LONGEST }, { "base", 73, 8 },
-        { "period", 81, 2 }, { "offset", 83, 1 }, { "bound R", 84, 1 }, { "shortfall at the base", 85, 2 }
-    };
-    const size_t entry = 6;
-    size_t i, j, from;
+/* A part of an image or of a schedule: its name, first byte and size. Where there is one for each id, the bytes from one to the next, else 0. */
+struct part { const char *name; size_t first, size, step; };
 
-    for (i = 0; i < sizeof parts / sizeof parts[0]; i++) {
-        from = parts[i].first;
-        printf("image %zu", from);
-        if (i >= 4)
-            printf(" + %zu * id", entry);
-        else if (parts[i].size > 1)
-            printf("..%zu", from + parts[i].size - 1);
-        printf(" %s: ", parts[i].name);
-        if (i >= 4)
-            from += entry * 2;
-        for (j = 0; j < parts[i].size; j++)
-            printf("%02x", image[from + j]);
+/* Prints the parts of an image or of a schedule at their bytes, and of those for each id that of id 2. */
+static void show_parts(const char *name, const uint8_t *bytes, const struct part *parts, size_t count)
+{
+    size_t i, j;
+
+    for (i = 0; i < count; i++) {
+        const struct part p = parts[i];
+        printf("%s %zu", name, p.first);
+        if (p.step > 1)
+            printf(" + %zu * id", p.step);
+        else if (p.step == 1)
+            printf(" + id");
+        else if (p.size > 1)
+            printf("..%zu", p.first + p.size - 1);
+        printf(" %s: ", p.name);
+        for (j = 0; j < p.size; j++)
+            printf("%02x", bytes[p.first + 2 * p.step + j]);
         printf("\n");
     }
+}
+
+/* Prints the parts of the image. */
+static void show_image(void)
+{
+    static const struct part parts[] = {
+        { "request slot", 0, 8, 0 }, { "transition length", 8, 1, 0 }, { "owners", 9, TARNFLAW_LONGEST, 0 }, { "base", 73, 8, 0 },
+        { "period", 81, 2, 6 }, { "offset", 83, 1, 6 }, { "bound R", 84, 1, 6 }, { "shortfall at the base", 85, 2, 6 }
+    };
+
+    show_parts("image", image, parts, sizeof parts / sizeof parts[0]);
 }
 
 /* Prints who has slot 7 by an image that is torn: its first bytes, up to the base, of the present image and the others of an older one. */
@@ -167,6 +176,118 @@ static void show_damage(void)
     printf("of %u,%03u images that differ from case B's in one byte %u are sound\n", damaged / 1000, damaged % 1000, sound);
 }
 
+#define ROOM 300    /* the bytes that calls without an image may write to, filled before each */
+#define FILLED 0xa5 /* with this */
+static uint8_t room[ROOM];
+
+/* How many bytes of the room were written: up to the last that is not as it was filled. */
+static size_t touched(void)
+{
+    size_t size = ROOM;
+
+    while (size > 0 && room[size - 1] == FILLED)
+        size--;
+    return size;
+}
+
+/* Reads an answer into the room, and prints what is returned, told and touched. Returns the number. */
+static uint8_t read_answer(const char *name, const uint8_t *answer, size_t answer_size, size_t area_size)
+{
+    size_t where;
+    uint8_t number;
+
+    memset(room, FILLED, ROOM);
+    number = tarnflaw_read_answer(answer, answer_size, room, area_size, &where);
+    printf("read %s: %u %s, place %zu, %zu bytes touched\n", name, number, says(number), where, touched());
+    return number;
+}
+
+/* Writes a request into the room, and prints what is returned, told and touched. Returns the number. */
+static uint8_t write_request(const char *name, uint64_t slot, uint8_t limit, const uint8_t *listing, size_t listing_size, size_t area_size)
+{
+    size_t where, written;
+    uint8_t number;
+
+    memset(room, FILLED, ROOM);
+    number = tarnflaw_write_request(slot, limit, listing, listing_size, room, area_size, &where, &written);
+    printf("write %s: %u %s, place %zu, %zu bytes, %zu touched\n", name, number, says(number), where, written, touched());
+    return number;
+}
+
+/* Reads the field at a place, prints what is returned and told, and where the place is then. Returns that. */
+static size_t read_field(const uint8_t *answer, size_t answer_size, size_t at)
+{
+    size_t next = at, where;
+    uint8_t tag, first, second;
+    uint8_t number = tarnflaw_answer_field(answer, answer_size, &next, &where, &tag, &first, &second);
+
+    printf("at %zu: %u %s, place %zu, tag %02x, %u %u, then at %zu\n", at, number, says(number), where, tag, first, second, next);
+    return next;
+}
+
+/* Reads case B's answer, whole and a field at a time, and tries what is refused. */
+static void show_reading(const uint8_t *answer, size_t size)
+{
+    static const struct part parts[] = {
+        { "transition length", 0, 1, 0 }, { "owners", 1, TARNFLAW_LONGEST, 0 }, { "listed", 65, 1, 1 }, { "offset", 97, 1, 1 }
+    };
+    uint8_t other[TARNFLAW_AREA + 1];
+    uint8_t n[2];
+    size_t at, next;
+
+    memcpy(other, answer, size);
+    read_answer("B's answer", answer, size, TARNFLAW_SCHEDULE);
+    show_parts("schedule", room, parts, sizeof parts / sizeof parts[0]);
+    read_answer("it cut by a byte", answer, size - 1, TARNFLAW_SCHEDULE);
+    read_answer("its length alone", answer, 4, TARNFLAW_SCHEDULE);
+    read_answer("nothing", answer, 0, TARNFLAW_SCHEDULE);
+    other[size] = 0;
+    read_answer("it with a byte behind", other, size + 1, TARNFLAW_SCHEDULE);
+    other[7] = TARNFLAW_IDS;
+    read_answer("it with owner 32", other, size, TARNFLAW_SCHEDULE);
+    other[3] = TARNFLAW_LONGEST + 1;
+    read_answer("it with length 65", other, size, TARNFLAW_SCHEDULE);
+    memcpy(other, answer, size);
+    other[size - 2] = 1;
+    n[0] = read_answer("it with an id twice, into a byte less", other, size, TARNFLAW_SCHEDULE - 1);
+    n[1] = read_answer("it into a byte less", answer, size, TARNFLAW_SCHEDULE - 1);
+    printf("the reader refuses %u, then %u\n", n[0], n[1]);
+
+    for (at = 0; (next = read_field(answer, size, at)) != at; at = next)
+        ;
+    read_field(answer, size, size + 1);
+    read_field(other, size, size - 5);
+}
+
+/* Writes case B's request, and tries what is refused. */
+static void show_writing(void)
+{
+    static const uint8_t listed_b[] = { 0, 2, 1, 1, 2, 1, 2, 1, 2 };
+    static const uint8_t bad[] = { 0, 2, 1, 1, 9, 1 }, none[] = { 0, 2, 0 }, again[] = { 0, 2, 1, 0, 2, 1 };
+    uint8_t many[3 * TARNFLAW_IDS + 3];
+    uint8_t n[5], id;
+
+    write_request("B's request", 6, 1, listed_b, sizeof listed_b, TARNFLAW_REQUEST);
+    change("B by it, once more", room, 33, TARNFLAW_IMAGE, TARNFLAW_AREA);
+    write_request("one that lists nothing", 6, 1, listed_b, 0, 15);
+    for (id = 0; id <= TARNFLAW_IDS; id++) {
+        many[3 * id] = id;
+        many[3 * id + 1] = 5;
+        many[3 * id + 2] = 8;
+    }
+    write_request("the longest", TARNFLAW_LAST_SLOT, TARNFLAW_LONGEST, many, sizeof many - 3, TARNFLAW_REQUEST);
+    write_request("it with a partition more", TARNFLAW_LAST_SLOT, TARNFLAW_LONGEST, many, sizeof many, TARNFLAW_REQUEST);
+    write_request("a partition cut short", 6, 1, listed_b, sizeof listed_b - 1, TARNFLAW_REQUEST);
+    write_request("R 0", 6, 1, none, sizeof none, TARNFLAW_REQUEST);
+
+    n[0] = write_request("all at once", TARNFLAW_LAST_SLOT + 1, TARNFLAW_LONGEST + 1, bad, sizeof bad, 14);
+    n[1] = write_request("T and the listing", 6, TARNFLAW_LONGEST + 1, bad, sizeof bad, 14);
+    n[2] = write_request("k 9", 6, 1, bad, sizeof bad, 14);
+    n[3] = write_request("an id twice", 6, 1, again, sizeof again, 14);
+    n[4] = write_request("a byte less", 6, 1, listed_b, sizeof listed_b, 32);
+    printf("the writer refuses %u, then %u, then %u or %u, then %u\n", n[0], n[1], n[2], n[3], n[4]);
+}
+
 /* The longest request, and one of a byte less: all ids, each with period 32 and R 8. */
 static void longest(void)
 {
@@ -201,13 +322,12 @@ static void refusals(void)
     CHANGE("E with the longest T", case_e_64);
 }
 
-int main(void)
+/* Makes the empty timetable of other bytes. */
+static void show_empty(void)
 {
     static const uint8_t zero[TARNFLAW_IMAGE] = { 0 };
-    uint8_t older[TARNFLAW_IMAGE];
     uint8_t number;
 
-    printf("version %d, images since version %d\n", TARNFLAW_VERSION, TARNFLAW_IMAGE_VERSION);
     memset(image, 0xff, sizeof image);
     number = tarnflaw_owner(image, TARNFLAW_IMAGE, 0, &place, &owner);
     printf("bytes ff: %u %s\n", number, says(number));
@@ -217,16 +337,28 @@ int main(void)
     printf("empty: %u %s, %s\n", number, says(number), memcmp(image, zero, sizeof zero) == 0 ? "all zero" : "not all zero");
     tarnflaw_owner(zero, TARNFLAW_IMAGE, 0, &place, &owner);
     printf("its slot 0: %s\n", owner == TARNFLAW_IDLE ? "idle" : "not idle");
+}
 
+int main(void)
+{
+    uint8_t older[TARNFLAW_IMAGE], answer[TARNFLAW_AREA];
+    size_t size;
+
+    printf("version %d, images since version %d\n", TARNFLAW_VERSION, TARNFLAW_IMAGE_VERSION);
+    show_empty();
     CHANGE("A", case_a);
     CHANGE("C", case_c);
     memcpy(older, image, TARNFLAW_IMAGE);
     show_record(case_b, sizeof case_b);
-    show_record(area, CHANGE("B", case_b));
+    size = CHANGE("B", case_b);
+    memcpy(answer, area, size);
+    show_record(answer, size);
     show_image();
     show_torn(older);
     refusals();
     show_order();
+    show_reading(answer, size);
+    show_writing();
     standing(2, 8, TARNFLAW_IMAGE);
     standing(0, 7, TARNFLAW_IMAGE);
     show_damage();

@@ -1,6 +1,6 @@
-/* Tarnflaw: the timetable changer of one core, for a C program on the board. C99 or C++.
+/* Tarnflaw: the timetable changer of one core, for a C program on the board or in the lab network. C99 or C++.
  *
- * A C program keeps the timetable as an image of TARNFLAW_IMAGE bytes (docs/RULES.md 10). Numbers are high byte first:
+ * A C program keeps the timetable as an image of TARNFLAW_IMAGE bytes (docs/RULES.md 10.1). Numbers are high byte first:
  *
  *     byte          what
  *     0..7          request slot
@@ -15,9 +15,10 @@
  * Start with tarnflaw_empty, and hand to each later call the image that the last accepted change left. It may be copied, stored and sent:
  * nothing else is kept. The empty timetable's image is all zero bytes, so memory that was cleared to 0 counts as an empty timetable.
  *
- * Each function returns a number, TARNFLAW_ACCEPTED or the refusal (docs/RULES.md 7.1). A size other than TARNFLAW_IMAGE is refused by
- * TARNFLAW_NOT_SOUND, and so are bytes that are no sound timetable (docs/RULES.md 3.5); only tarnflaw_empty takes any TARNFLAW_IMAGE bytes.
- * On a refusal no byte of the image or of the area changes. What is told through the other pointers is always written.
+ * Each function returns a number, TARNFLAW_ACCEPTED or the refusal (docs/RULES.md 7.1). An image of another size than TARNFLAW_IMAGE is refused by
+ * TARNFLAW_NOT_SOUND, and so are bytes that are no sound timetable (docs/RULES.md 3.5); only tarnflaw_empty takes any TARNFLAW_IMAGE bytes. The last
+ * three functions have no image: see "Archived answers, and requests from figures". On a refusal no byte of the image or of the area changes. What is
+ * told through the other pointers is always written.
  *
  * Any bytes may be handed in, and give one result. But sound means possible, not true: the bounds are promised for images that came from calls,
  * not for bytes that were changed elsewhere. See "Stored images".
@@ -42,6 +43,32 @@
  *     each listed id,   12 00 02      id, offset
  *     ids rising
  *
+ * Archived answers, and requests from figures
+ *
+ * tarnflaw_write_request writes the record of a request from its figures, in the form above and always with R. tarnflaw_read_answer reads an answer that
+ * was archived, and tells what it says, its schedule, in TARNFLAW_SCHEDULE bytes (docs/RULES.md 10.6):
+ *
+ *     byte          what
+ *     0             transition length, 0 to TARNFLAW_LONGEST
+ *     1..64         owners, one byte for each transition slot; unused ones 0
+ *     65 + id       listed: 1 where the id is, and else 0
+ *     97 + id       offset; 0 where the id is not listed
+ *
+ * tarnflaw_answer_field reads an answer a field at a time, with no room for a schedule: the program keeps a place in the answer, at first 0, and each
+ * call tells the field that stands there and moves the place behind it. It ends with tag TARNFLAW_NO_FIELD, told with 0 at the answer's end and with 3
+ * where a field is refused. Read so to the end, an answer is accepted or refused as a whole one is, with the same place.
+ *
+ * The form alone is tested (docs/RULES.md 6.8), and a schedule has one record in it. So an answer that is accepted need not be one that a controller
+ * gave. Who archives answers keeps beside each one:
+ *
+ *     its size        how many bytes were written. The bytes behind them in the area are not the answer's
+ *     a checksum      of its own, since many a damage leaves the form
+ *     the request     which has the slot, from which the transition slots count, and the periods
+ *     the version     TARNFLAW_VERSION of the firmware that wrote it
+ *
+ * What to do with a 3 of the reader, and with a 2, 4 or 5 of the writer, stands in docs/DICTIONARY.md: "What a 3 tells the archive" and "Writing a
+ * request".
+ *
  * Refused for want of a schedule
  *
  * 9 and 11 both say that no transition of up to T slots leads to a schedule. They tell whether a larger T may help, where the image and the rest of
@@ -56,9 +83,9 @@
  *
  * Stored images
  *
- * The library has a version, TARNFLAW_VERSION, which is raised whenever an answer, a record or the image changes its meaning. TARNFLAW_IMAGE_VERSION is
- * the first version whose images mean what they mean today; such an image is the same on every machine. A firmware that stores an image stores beside
- * it:
+ * The library has a version, TARNFLAW_VERSION, which is raised whenever an answer, a record or the image changes its meaning, and whenever functions are
+ * added. TARNFLAW_IMAGE_VERSION is the first version whose images mean what they mean today; such an image is the same on every machine. A firmware that
+ * stores an image stores beside it:
  *
  *     the version     TARNFLAW_IMAGE_VERSION. Where another number stands there, it starts from tarnflaw_empty, or refuses to start
  *     a checksum      of its own, since soundness is none: of 69,615 images that differ from case B's in one byte 675 are sound. Byte 86,
@@ -77,13 +104,27 @@
  * 9 and for 11 now. A literal 9 compiles on, and misses the 11. Numbers go up to 11: a table by number has 12 entries. How a logged 9 of version 1 is
  * read stands in docs/DICTIONARY.md, "Earlier meanings"; a firmware that logs answers logs TARNFLAW_VERSION with them.
  *
+ * From version 2 to version 3
+ *
+ * Exchange the header and the archive together. No answer, record or image has another meaning, nor has a number that an older function gives. So a
+ * firmware of version 2 goes on with its stored images and its logs, and logs 3 as the version from then on. What is new:
+ *
+ *     functions       tarnflaw_read_answer, tarnflaw_write_request and tarnflaw_answer_field
+ *     numbers         2 to 5 come from these too, with places of their own: a log says which function gave a number
+ *     registers       the SSE registers were xmm0 to xmm3, and are more now (see "What the archive needs"): a handler that saved those four alone
+ *                     saves all that are named there
+ *     constants       there were none, and there are some now (the same place): a linker script that placed the code alone places .rodata too
+ *     memset          tarnflaw_read_answer calls it: what links the archive has memset besides memcpy
+ *
  * Calls that overlap
  *
  * tarnflaw_empty and tarnflaw_change write the image piece by piece, in no promised order. Until they have returned, no other call on that image
  * may run: an interrupt that asks tarnflaw_owner in the midst of a change reads a torn image, and can be told a wrong owner as accepted. (With
  * bytes 0 to 80 of case B's new image and the others still of the old one, slot 7 is told idle, though id 0 has it in both.) Nor may anything
  * else write the image, the request or the area during a call. The two queries only read the image, and write only what their own pointers lead
- * to: any number of them may overlap on one image. Calls on different images may overlap as they like.
+ * to: any number of them may overlap on one image. Calls on different images may overlap as they like. The three functions that have no image read and
+ * write only what their own pointers lead to. They may overlap with every call that writes nothing that they read or write, and reads nothing that they
+ * write: so not tarnflaw_write_request with a tarnflaw_change that reads the request from the same bytes.
  *
  * A change beside a dispatcher
  *
@@ -121,6 +162,7 @@
  *     never early     The dispatcher takes a copy over at its request slot and at no other, however long before it was accepted.
  *     too late        If the dispatcher has already asked for the request slot when copy becomes WAITING, it drops the copy at the next slot: the
  *                     old image stays in force, and nothing is lost but the change. The task finds LATE, and asks again for a later slot.
+ *     its answer      An answer is archived once its copy is TAKEN: that of a copy that was dropped was never in force.
  *     a second one    A change while another waits is put off until that is TAKEN or LATE. So a request slot lies a few slots ahead, and not far.
  *
  * The task may ask queries on images[in_force] at any time: nobody but the task writes an image. A dispatcher that is refused runs the slot idle,
@@ -130,15 +172,16 @@
  * What the archive needs
  *
  * Link with libboard.a (rt staticlib board). The command beside each line shows it on target/staticlib/libboard.a, and examples/board fails where
- * the archive needs other functions, has data, or uses other instructions, SSE registers or stack than is said here.
+ * the archive needs other functions, has other data, or uses other instructions, SSE registers or stack than is said here.
  *
- *     ABI             x86-64, System V, 64-bit ELF (readelf -h); the code runs at any address, since it has only relative calls (objdump -r)
- *     from outside    memcpy (nm -u)
- *     data            none, neither writable nor constant (objdump -h)
+ *     ABI             x86-64, System V, 64-bit ELF (readelf -h); code and constants together run at any address, since calls and references are relative
+ *                     (objdump -r)
+ *     from outside    memcpy memset (nm -u)
+ *     data            32 bytes of constants, none writable (objdump -h)
  *     instructions    those of the first x86-64 processors, and tzcnt (objdump -d). Processors without BMI1 run tzcnt as bsf, which gives the same
  *                     here: its operand, a period, is never 0 where it is reached, and the flags that it sets are not read
- *     SSE             xmm0 to xmm3, to move and to clear bytes, in every function or in what it calls; no floating point arithmetic,
- *                     and no x87, MMX or AVX register (objdump -d). Your memcpy may use more
+ *     SSE             xmm0 to xmm7, to move, to clear and to pack bytes, in most functions or in what they call; no floating point arithmetic,
+ *                     and no x87, MMX or AVX register (objdump -d). Your memcpy and memset may use more
  *     red zone        tarnflaw_empty keeps figures in the 128 bytes below the stack pointer (objdump -d)
  *
  * So SSE has to be enabled. Every caller, as the ABI has it, calls with the stack pointer at a multiple of 16: the code moves 16 bytes at a time to
@@ -148,9 +191,10 @@
  * What it takes
  *
  * Measured, not proved, and the worst that was found, not a bound. Stack of a change: 4,895 bytes with the bench's own (71 where it calls nothing);
- * that of a query was not measured. Time of a change: 95 to 103 microseconds on a quiet machine, 142 where other work disturbed it; time of a query:
- * 0.5 (docs/BENCHMARKS.md has the machine and the inputs). A later build was timed on a slower machine with an unsteady clock: the worst changes of
- * three runs took 169, 201 and 117 microseconds there (docs/landings/ground.md). Measure on your board. */
+ * that of the other functions was not measured. Time of a change: 95 to 103 microseconds on a quiet machine, 142 where other work disturbed it; time of
+ * a query: 0.5 (docs/BENCHMARKS.md has the machine and the inputs). A later build was timed on a slower machine with an unsteady clock: the worst changes
+ * of three runs took 169, 201 and 117 microseconds there (docs/landings/ground.md). Reading an answer took 0.2 microseconds at the worst, and
+ * writing a request 0.1 (docs/BENCHMARKS.md). Measure on your board. */
 #ifndef TARNFLAW_H
 #define TARNFLAW_H
 
@@ -161,23 +205,34 @@
 extern "C" {
 #endif
 
-#define TARNFLAW_VERSION 2                   /* the version of the library, to be logged with an answer */
+#define TARNFLAW_VERSION 3                   /* the version of the library, to be logged with an answer */
 #define TARNFLAW_IMAGE_VERSION 1             /* the first version whose images mean what they mean today, to be stored beside an image */
 #define TARNFLAW_IMAGE 273                   /* bytes of an image */
 #define TARNFLAW_REQUEST 207                 /* bytes that a request has at most */
 #define TARNFLAW_AREA 231                    /* bytes that an answer has at most, and an answer area at least */
+#define TARNFLAW_SCHEDULE 129                /* bytes of a schedule, and what an answer is read into has at least */
 #define TARNFLAW_IDS 32                      /* ids are below it */
 #define TARNFLAW_LONGEST 64                  /* slots that a transition has at most, and the largest T */
 #define TARNFLAW_LAST_SLOT 0xffffffffffffUL  /* 2^48 - 1, the last slot that a request or a query may name */
 #define TARNFLAW_IDLE 255                    /* the owner of an idle slot */
 
+/* What tarnflaw_answer_field tells as the tag. */
+#define TARNFLAW_NO_FIELD 0                  /* nothing is left, or the field is refused */
+#define TARNFLAW_LENGTH_FIELD 0x10           /* the transition length */
+#define TARNFLAW_OWNERS_FIELD 0x11           /* the owners */
+#define TARNFLAW_OFFSET_FIELD 0x12           /* an id and its offset */
+
+/* The places that tarnflaw_write_request tells with 4 for a figure outside the listing. */
+#define TARNFLAW_SLOT_PLACE 64               /* the slot */
+#define TARNFLAW_LIMIT_PLACE 65              /* T */
+
 /* The numbers (docs/RULES.md 7.1). */
 enum tarnflaw_number {
     TARNFLAW_ACCEPTED = 0,           /* accepted */
     TARNFLAW_NOT_SOUND = 1,          /* timetable not sound */
-    TARNFLAW_SMALL_AREA = 2,         /* answer area under 231 bytes */
-    TARNFLAW_BAD_FIELD = 3,          /* field cut off, missing, unknown, out of order or of wrong length */
-    TARNFLAW_OUT_OF_RANGE = 4,       /* value out of range */
+    TARNFLAW_SMALL_AREA = 2,         /* answer area under 231 bytes (or an area too short for a schedule or a request) */
+    TARNFLAW_BAD_FIELD = 3,          /* field cut off, missing, unknown, out of order or of wrong length (in an archived answer every fault) */
+    TARNFLAW_OUT_OF_RANGE = 4,       /* value out of range (or a listing that ends within an entry) */
     TARNFLAW_NOT_RISING = 5,         /* id not above the one before */
     TARNFLAW_TOO_EARLY = 6,          /* slot too early */
     TARNFLAW_OVERFULL = 7,           /* weights sum above 256 */
@@ -237,6 +292,60 @@ uint8_t tarnflaw_owner(const uint8_t *image, size_t image_size, uint64_t slot,
  * Refuses 1, then 4 (id or slot), then 6 (slot before the base), then 10 (id not listed). */
 uint8_t tarnflaw_standing(const uint8_t *image, size_t image_size, uint8_t id, uint64_t slot,
                           size_t *place, uint16_t *shortfall, uint64_t *slices);
+
+/* Reads an archived answer, and tells what it says (docs/RULES.md 6.8, 6.9 and 10.6).
+ *
+ *     answer, answer_size   the bytes of the answer, in the form above, and no others
+ *     area, area_size       TARNFLAW_SCHEDULE bytes or more; on acceptance the schedule is at its start, and the bytes after it stay as they were
+ *     place                 told: for 3 the byte of the answer where the field begins in which the fault shows (its size, where the length or the
+ *                           owners are missing at its end), otherwise 0
+ *
+ * 3 is told for every other form: a field that is cut off, missing, unknown, out of order or of wrong length, a transition length above
+ * TARNFLAW_LONGEST, another number of owners than that, an owner or id from TARNFLAW_IDS on, an id that is not above the one before, and bytes behind the
+ * last field.
+ * Refuses 3, then 2 (area under TARNFLAW_SCHEDULE bytes). */
+uint8_t tarnflaw_read_answer(const uint8_t *answer, size_t answer_size,
+                             uint8_t *area, size_t area_size,
+                             size_t *place);
+
+/* Writes a request (docs/RULES.md 6.11 and 6.12).
+ *
+ *     slot                    the request slot, at most TARNFLAW_LAST_SLOT
+ *     limit                   T, the longest transition allowed, at most TARNFLAW_LONGEST. It is one byte: test a number above 255 before it is
+ *                             handed in, since 256 arrives, and is written, as T 0
+ *     listing, listing_size   an entry for each partition, three bytes, ids rising: id (below TARNFLAW_IDS), k (0 to 8; its period is 2^k), R (1 to 8)
+ *     area, area_size         15 bytes and 6 for each entry, or more; TARNFLAW_REQUEST bytes are always enough. On acceptance the request is at its
+ *                             start, and the bytes after it stay as they were
+ *     place                   told: for 4 TARNFLAW_SLOT_PLACE, TARNFLAW_LIMIT_PLACE, or the entry, for 5 the entry, otherwise 0. An entry is told by
+ *                             its index in the listing, counted from 0, at most 32
+ *     written                 told: the bytes of the request; 0 on a refusal
+ *
+ * 4 is told for a value out of range and for a listing that ends within an entry, 5 for an id that is not above the one before. A request that is
+ * written is read by tarnflaw_change as the same slot, T and listing; whether it is accepted is another thing.
+ * Refuses 4 (slot), then 4 (T), then 4 or 5 (entry by entry), then 2 (area shorter than the request). */
+uint8_t tarnflaw_write_request(uint64_t slot, uint8_t limit,
+                               const uint8_t *listing, size_t listing_size,
+                               uint8_t *area, size_t area_size,
+                               size_t *place, size_t *written);
+
+/* Reads one field of an archived answer (docs/RULES.md 6.10 and 10.8).
+ *
+ *     answer, answer_size   the bytes of the answer, in the form above; the same bytes in each call
+ *     at                    the place of the field: 0 for the first, and then what the call before left there. Moved behind the field; stays where
+ *                           nothing is left or the field is refused
+ *     place                 told: for 3 the place of the field, otherwise 0
+ *     tag                   told: TARNFLAW_LENGTH_FIELD, TARNFLAW_OWNERS_FIELD or TARNFLAW_OFFSET_FIELD; TARNFLAW_NO_FIELD where nothing is left, and
+ *                           on a refusal: the number tells the two apart
+ *     first                 told: the transition length, the number of owners or the id, by the tag; 0 where there is none
+ *     second                told: the id's offset; 0 for every other tag
+ *
+ * The owners are bytes of the answer: behind TARNFLAW_OWNERS_FIELD the last `first` bytes before `at`, which begin at byte 7, one for each transition
+ * slot. Until TARNFLAW_NO_FIELD is told with 0 a fault may still follow: what was told up to there is not yet known to be an answer. Any other place than
+ * one that was told has one result too (docs/RULES.md 6.10), but says nothing of the answer; behind its end nothing is left (only at 4, where the
+ * owners are due, it is 3).
+ * Refuses 3, for every other form, as tarnflaw_read_answer does. */
+uint8_t tarnflaw_answer_field(const uint8_t *answer, size_t answer_size,
+                              size_t *at, size_t *place, uint8_t *tag, uint8_t *first, uint8_t *second);
 
 #ifdef __cplusplus
 }

@@ -1,6 +1,9 @@
 pub mod StoreLaws
+pub mod ScheduleLaws
 pub mod HeldLaws
 pub mod BoardLaws
+pub mod ArchiveLaws
 pub mod ReadBack
 pub mod KeptImage
 pub mod OneImage
+pub mod OneArchive

@@ -1,14 +1,25 @@
 // The library as a C program on the board calls it. A timetable is an image of 273 bytes, and each function returns a number of docs/RULES.md 7.1.
 ghost use mathlib.Core.Path.{_≡_};
+ghost use Rattle.board.specs.Archive.{AnswerTold, FieldTold, RequestTold};
 ghost use Rattle.board.specs.Image.{Changed, OwnerTold, StandingTold, emptyImage, emptyNumber, imageOwner, imageStanding};
+ghost use Rattle.records.specs.AnswerRead.{fieldAt};
 use numbers::Refusal;
+use records::AnswerField;
+use records::Reading;
+use records::write::LENGTH_TAG;
+use records::write::OFFSET_TAG;
+use records::write::OWNERS_TAG;
 use slots::CoreSlot;
 use timetable::Timetable;
 
 mod image; // image.rt: reading and writing an image
+mod schedule; // schedule.rt: writing what an answer says
 
 // An image has this many bytes. Fewer or more are no sound timetable.
 pub const IMAGE: usize = 273;
+
+// A schedule has this many bytes. An area of fewer is too small to read an answer into.
+pub const SCHEDULE: usize = 129;
 
 // Makes the image of the empty timetable.
 #[no_mangle]
@@ -91,4 +102,90 @@ pub extern "C" fn tarnflaw_standing(
     *shortfall = a.shortfall;
     *slices = a.slices.0;
     a.number
+}
+
+// What an archived answer says is written to the area; or a refusal leaves every byte of it.
+#[no_mangle]
+pub extern "C" fn tarnflaw_read_answer(answer: &[u8], area: &mut [u8], place: &mut usize) -> u8
+    ensures { λ r. ⌜ AnswerTold (now (answer .entry)) (now (area .entry)) r (now (place .exit)) (now (area .exit)) ⌝ }
+{
+    let read = records::reader::read_answer(answer);
+    let reading = read.reading;
+    match reading {
+        Reading::Refused(refusal) => {
+            *place = refusal.place;
+            refusal.number
+        }
+        Reading::Whole => {
+            *place = 0;
+            if area.len() < SCHEDULE {
+                return Refusal::SMALL_AREA;
+            }
+            let x = read.schedule;
+            schedule::put_schedule(area, x);
+            Refusal::ACCEPTED
+        }
+    }
+}
+
+// A request is written to the area; or a refusal leaves every byte of it.
+#[no_mangle]
+pub extern "C" fn tarnflaw_write_request(
+    slot: u64,
+    limit: u8,
+    listing: &[u8],
+    area: &mut [u8],
+    place: &mut usize,
+    written: &mut usize,
+) -> u8
+    ensures { λ r. ⌜ RequestTold slot limit (now (listing .entry)) (now (area .entry)) r (now (place .exit)) (now (written .exit)) (now (area .exit)) ⌝ }
+{
+    let w = records::writer::write_request(CoreSlot(slot), limit, listing, area);
+    *place = w.place;
+    *written = w.written;
+    w.number
+}
+
+// What stands at a place of an archived answer. The place moves on behind it, unless nothing is left there or it is refused.
+#[no_mangle]
+pub extern "C" fn tarnflaw_answer_field(
+    answer: &[u8],
+    at: &mut usize,
+    place: &mut usize,
+    tag: &mut u8,
+    first: &mut u8,
+    second: &mut u8,
+) -> u8
+    ensures { λ r. ⌜ FieldTold (fieldAt (now (answer .entry)) (now (at .entry))) r (now (place .exit)) (now (tag .exit)) (now (first .exit)) (now (second .exit)) (now (at .exit)) ⌝ }
+{
+    let step = records::answer::field_at(answer, *at);
+    *at = step.next;
+    *place = 0;
+    *tag = 0;
+    *first = 0;
+    *second = 0;
+    let field = step.field;
+    match field {
+        AnswerField::Length(n) => {
+            *tag = LENGTH_TAG;
+            *first = n;
+            Refusal::ACCEPTED
+        }
+        AnswerField::Owners(n) => {
+            *tag = OWNERS_TAG;
+            *first = n;
+            Refusal::ACCEPTED
+        }
+        AnswerField::Offset(id, offset) => {
+            *tag = OFFSET_TAG;
+            *first = id;
+            *second = offset;
+            Refusal::ACCEPTED
+        }
+        AnswerField::End => Refusal::ACCEPTED,
+        AnswerField::Refused(refusal) => {
+            *place = refusal.place;
+            refusal.number
+        }
+    }
 }
