@@ -1,4 +1,4 @@
-// A test tool: any timetable, request and area through the library's C interface, and everything that comes back printed. Its protocol is docs/PROBE.md.
+// A test tool: any timetable, record, request and area through the library's C interface, and everything that comes back printed. Its protocol is docs/PROBE.md.
 use frames::HEADER;
 use frames::stream;
 ghost use lib.ListN.{length};
@@ -7,8 +7,9 @@ ghost use Prim.Native.Nat.{_≤_};
 ghost use Rattle.frames.specs.Coded.{LINE-ROOM};
 ghost use Rattle.probe.specs.Probes.{Probes};
 
+mod archive; // archive.rt: the kinds of probe that have no image
 mod printing; // printing.rt: the parts of a line
-mod probing; // probing.rt: the four kinds of probe
+mod probing; // probing.rt: the kinds of probe, and those that have an image
 mod reading; // reading.rt: the parts of a probe
 
 fn main() {

@@ -96,6 +96,22 @@ fn print_decimal(out: &mut [u8], put: usize, n: u64) -> usize
     print_text(out, put, &digits[..count])
 }
 
+// What every answer begins with: its word, number and place.
+pub fn print_answer(out: &mut [u8], put: usize, word: &[u8], number: u8, place: usize) -> usize
+    ensures { λ r. ⌜ r ≤ length (now (out .entry)) ⌝ }
+{
+    let at = print_text(out, put, word);
+    print_two(out, at, number as u64, place as u64)
+}
+
+// Two numbers.
+pub fn print_two(out: &mut [u8], put: usize, one: u64, other: u64) -> usize
+    ensures { λ r. ⌜ r ≤ length (now (out .entry)) ⌝ }
+{
+    let at = print_number(out, put, one);
+    print_number(out, at, other)
+}
+
 // An image behind a space, packed, in hexadecimal; `-` for no bytes.
 pub fn print_image(out: &mut [u8], put: usize, image: &[u8]) -> usize
     ensures { λ r. ⌜ r ≤ length (now (out .entry)) ⌝ }

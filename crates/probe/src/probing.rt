@@ -1,8 +1,11 @@
-// The four kinds of probe: each calls its entry point of the library and prints what came back.
+// The kinds of probe: each calls its entry point of the library and prints what came back. Those that have no image are in archive.rt.
+use crate::archive;
+use crate::printing::print_answer;
 use crate::printing::print_area;
 use crate::printing::print_image;
 use crate::printing::print_number;
 use crate::printing::print_text;
+use crate::printing::print_two;
 use crate::reading::after;
 use crate::reading::byte_at;
 use crate::reading::fill_area;
@@ -12,16 +15,35 @@ use crate::reading::unpack;
 ghost use lib.ListN.{length};
 ghost use Prim.Native.Nat.{_≤_};
 
-// Where the image's bytes stand in every probe: behind its kind and their number.
+// Where the image's bytes stand in a probe that has one: behind its kind and their number.
 const IMAGE_AT: usize = 3;
 
 // The line of a probe, without its end, is put into the output.
 pub fn line(content: &[u8], out: &mut [u8], put: usize, image: &mut [u8], area: &mut [u8]) -> usize
     ensures { λ r. ⌜ r ≤ length (now (out .entry)) ⌝ }
 {
+    let kind = byte_at(content, 0);
+    match kind {
+        5 => archive::answer(content, out, put, area),
+        6 => archive::request(content, out, put, area),
+        7 => archive::field(content, out, put),
+        _ => on_image(content, kind, out, put, image, area),
+    }
+}
+
+// The line of a probe that has an image.
+fn on_image(
+    content: &[u8],
+    kind: u8,
+    out: &mut [u8],
+    put: usize,
+    image: &mut [u8],
+    area: &mut [u8],
+) -> usize
+    ensures { λ r. ⌜ r ≤ length (now (out .entry)) ⌝ }
+{
     let size = length_at(content, 1, image.len());
     let at = unpack(content, IMAGE_AT, &mut image[0..size]);
-    let kind = byte_at(content, 0);
     match kind {
         1 => change(content, at, out, put, &mut image[0..size], area),
         2 => owner(content, at, out, put, &image[0..size]),
@@ -77,22 +99,6 @@ fn changed(
     let b = print_two(out, a, tries as u64, written as u64);
     let c = print_image(out, b, image);
     print_area(out, c, area, content, after(content, end, 2))
-}
-
-// What every answer begins with: its word, number and place.
-fn print_answer(out: &mut [u8], put: usize, word: &[u8], number: u8, place: usize) -> usize
-    ensures { λ r. ⌜ r ≤ length (now (out .entry)) ⌝ }
-{
-    let at = print_text(out, put, word);
-    print_two(out, at, number as u64, place as u64)
-}
-
-// Two numbers.
-fn print_two(out: &mut [u8], put: usize, one: u64, other: u64) -> usize
-    ensures { λ r. ⌜ r ≤ length (now (out .entry)) ⌝ }
-{
-    let at = print_number(out, put, one);
-    print_number(out, at, other)
 }
 
 // The owner query on the image.
