@@ -1,11 +1,14 @@
 //! The cases of docs/RULES.md 11 as requests and queries: the bench cases that are such, and the
-//! run-only ones.
+//! run-only ones; and their answers as they are read, and their listings as they are written.
 
+use crate::archive::SCHEDULE;
+use crate::asking::Asking;
 use crate::change::{change, AREA};
 use crate::probe::{
-    change_content, empty_content, image_field, image_of, owner_content, standing_content, IMAGE,
+    answer_content, change_content, empty_content, field_content, image_field, image_of,
+    owner_content, request_content, standing_content, IMAGE,
 };
-use crate::records::{longest_field, share_field, slot_field};
+use crate::records::{longest_field, share_field, slot_field, write_answer};
 use crate::timetable::{Entry, Timetable, IDS, LAST_SLOT};
 
 /// The byte that fills the areas of the cases.
@@ -162,4 +165,79 @@ pub fn all_listed() -> Timetable {
 fn all_again() -> Vec<u8> {
     let shares: Vec<(u8, u8, u8)> = (0..IDS as u8).map(|id| (id, 5, 1)).collect();
     record(64, 64, &shares)
+}
+
+/// The cases of reading and writing, as probes: answers of the lettered cases, A's and B's listings.
+pub fn archives() -> Vec<Vec<u8>> {
+    [answers_read(), fields_read(), requests_written(), writings_refused()].concat()
+}
+
+/// The answers of the empty listing, of A and of B, and the longest one; B's cut at every length, and
+/// with a byte behind it; the area of 128 bytes and around.
+fn answers_read() -> Vec<Vec<u8>> {
+    let b = answer_b();
+    let whole = [Timetable::empty(), after(&[request_a()]), all_listed()];
+    let mut probes: Vec<Vec<u8>> =
+        whole.iter().map(|timetable| answer_probe(&write_answer(timetable), SCHEDULE)).collect();
+    probes.extend((0..=b.len()).map(|end| answer_probe(&b[..end], SCHEDULE)));
+    probes.push(answer_probe(&[&b[..], &[0]].concat(), SCHEDULE));
+    probes.extend([0, 1, SCHEDULE - 1, SCHEDULE + 1, 65535].map(|area| answer_probe(&b, area)));
+    probes.push(answer_probe(&b[1..], SCHEDULE - 1));
+    probes
+}
+
+/// B's answer read at every place up to two bytes behind its end, and far off; no answer at 0 and 4.
+fn fields_read() -> Vec<Vec<u8>> {
+    let b = answer_b();
+    let far = [1 << 32, u64::MAX - 2, u64::MAX];
+    let places = (0..b.len() as u64 + 3).chain(far);
+    let mut probes: Vec<Vec<u8>> = places.map(|place| field_content(&b, place)).collect();
+    probes.extend([0, 4].map(|place| field_content(&[], place)));
+    probes
+}
+
+/// What A, B and the empty listing ask, and all 32 ids, written into the least area and a larger one.
+fn requests_written() -> Vec<Vec<u8>> {
+    let all: Vec<u8> = (0..IDS as u8).flat_map(|id| [id, 8, 8]).collect();
+    let askings = [
+        Asking { slot: 0, longest: 0, listing: vec![0, 2, 1, 1, 2, 1] },
+        Asking { slot: 6, longest: 1, listing: vec![0, 2, 1, 1, 2, 1, 2, 1, 2] },
+        Asking { slot: LAST_SLOT, longest: 64, listing: Vec::new() },
+        Asking { slot: LAST_SLOT, longest: 64, listing: all },
+    ];
+    let areas = |asking: &Asking| {
+        let enough = 15 + 2 * asking.listing.len() as u16;
+        [enough - 1, enough, enough + 1].map(|area| request_content(asking, area, &[BEFORE]))
+    };
+    askings.iter().flat_map(areas).collect()
+}
+
+/// Each thing that is refused alone, from the last on, and with all that come after it.
+fn writings_refused() -> Vec<Vec<u8>> {
+    let (right, wrong) = ([0, 2, 1, 1, 2, 1], [0, 2, 1, 0, 2, 1, 2, 9, 1, 3]);
+    let asking = |slot, longest, listing: &[u8], area| {
+        request_content(&Asking { slot, longest, listing: listing.to_vec() }, area, &[BEFORE])
+    };
+    vec![
+        asking(LAST_SLOT + 1, 0, &right, 27),
+        asking(LAST_SLOT + 1, 65, &wrong, 0),
+        asking(0, 65, &right, 27),
+        asking(0, 65, &wrong, 0),
+        asking(0, 0, &wrong, 0),
+        asking(0, 0, &[0, 2, 1, 1, 9, 1, 0, 2, 1], 33),
+        asking(0, 0, &[0, 2, 1, 32, 2, 1], 27),
+        asking(0, 0, &[0, 2, 0], 21),
+        asking(0, 0, &right[..5], 27),
+        asking(0, 0, &right[..1], 27),
+    ]
+}
+
+/// B's answer.
+fn answer_b() -> Vec<u8> {
+    write_answer(&after(&[request_a(), request_b(6, 1)]))
+}
+
+/// A probe that reads an answer into an area of one byte over and over.
+fn answer_probe(record: &[u8], area: usize) -> Vec<u8> {
+    answer_content(record, area as u16, &[BEFORE])
 }

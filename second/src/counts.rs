@@ -1,5 +1,6 @@
 //! How often each answer comes in a stream of requests or of probes, as tables.
 
+use crate::archive::FieldTold;
 use crate::breaks::CLAUSES;
 use crate::change::{change, AREA};
 use crate::generate::Generator;
@@ -12,7 +13,7 @@ use crate::timetable::{Timetable, LONGEST_TRANSITION};
 /// The numbers of answers, 0 to 11.
 const NUMBERS: usize = 12;
 /// The kinds of probes that have a number.
-const KINDS: [&str; 4] = ["change", "owner", "standing", "empty"];
+const KINDS: [&str; 7] = ["change", "owner", "standing", "empty", "answer", "request", "field"];
 /// The classes of transition lengths.
 const LENGTHS: [&str; 4] = ["0", "1", "2 to 8", "over 8"];
 /// The classes of refusals for want of a schedule by their place, which is T for 11.
@@ -105,12 +106,59 @@ impl RequestCounts {
     }
 }
 
+/// The numbers of each kind of probe, and the bad probes.
+#[derive(Default)]
+pub struct KindCounts {
+    pub numbers: [[u64; NUMBERS]; KINDS.len()],
+    pub bad: u64,
+}
+
+impl KindCounts {
+    /// A reply is counted by its kind and its number.
+    pub fn count(&mut self, reply: &Reply) {
+        let (kind, number) = match *reply {
+            Reply::Change { number, .. } => (0, number),
+            Reply::Owner { number, .. } => (1, number),
+            Reply::Standing { number, .. } => (2, number),
+            Reply::Empty { number, .. } => (3, number),
+            Reply::Answer { number, .. } => (4, number),
+            Reply::Request { number, .. } => (5, number),
+            Reply::Field(FieldTold { number, .. }) => (6, number),
+            Reply::Bad => {
+                self.bad += 1;
+                return;
+            }
+        };
+        add(&mut self.numbers[kind], usize::from(number));
+    }
+
+    /// A column for each kind and a row for each number that come, then the sums and the bad probes.
+    pub fn table(&self) -> String {
+        let all = |counts: &[u64; NUMBERS]| counts.iter().sum::<u64>();
+        let kinds: Vec<usize> =
+            (0..KINDS.len()).filter(|&kind| all(&self.numbers[kind]) > 0).collect();
+        let line = |name: String, figure: &dyn Fn(&[u64; NUMBERS]) -> u64| {
+            let figures = kinds.iter().map(|&kind| figure(&self.numbers[kind]).to_string());
+            row(&[vec![name], figures.collect()].concat())
+        };
+        let names = kinds.iter().map(|&kind| KINDS[kind]);
+        let mut rows = vec![row(&["Number"].into_iter().chain(names).collect::<Vec<_>>())];
+        rows.push(rule(1 + kinds.len()));
+        let comes = |number: &usize| self.numbers.iter().any(|counts| counts[*number] > 0);
+        for number in (0..NUMBERS).filter(comes) {
+            rows.push(line(number.to_string(), &|counts| counts[number]));
+        }
+        rows.push(line(String::from("all"), &all));
+        rows.push(format!("\nBad probes: {}\n", self.bad));
+        rows.concat()
+    }
+}
+
 /// The kinds, numbers, refusals for want of a schedule, lengths, area sizes and timetables of a
 /// stream of probes.
 #[derive(Default)]
 pub struct ProbeCounts {
-    pub numbers: [[u64; NUMBERS]; KINDS.len()],
-    pub bad: u64,
+    pub kinds: KindCounts,
     pub wants: Wants,
     pub lengths: [u64; LENGTHS.len()],
     pub areas: [u64; AREAS.len()],
@@ -144,13 +192,7 @@ impl ProbeCounts {
     fn count(&mut self, made: &Made) {
         let probe = read_probe(&made.content);
         let reply = put(&probe);
-        match reply {
-            Reply::Change { number, .. } => add(&mut self.numbers[0], usize::from(number)),
-            Reply::Owner { number, .. } => add(&mut self.numbers[1], usize::from(number)),
-            Reply::Standing { number, .. } => add(&mut self.numbers[2], usize::from(number)),
-            Reply::Empty { number, .. } => add(&mut self.numbers[3], usize::from(number)),
-            Reply::Bad => self.bad += 1,
-        }
+        self.kinds.count(&reply);
         self.count_change(&probe, &reply);
         if let Some(image) = image_in(&probe) {
             self.count_origin(made.origin, image);
@@ -185,30 +227,13 @@ impl ProbeCounts {
     /// timetables by how they were made.
     pub fn tables(&self) -> String {
         let tables = [
-            self.number_table(),
+            self.kinds.table(),
             self.wants.tables(),
             class_table("Transition length", &LENGTHS, &self.lengths),
             class_table("Area", &AREAS, &self.areas),
             self.origin_table(),
         ];
         tables.join("\n")
-    }
-
-    /// A column for each kind and a row for each number, then the sums and the bad probes.
-    fn number_table(&self) -> String {
-        let mut rows = vec![row(&[&["Number"], &KINDS[..]].concat()), rule(1 + KINDS.len())];
-        for number in 0..NUMBERS {
-            rows.push(self.kind_row(&number.to_string(), |counts| counts[number]));
-        }
-        rows.push(self.kind_row("all", |counts| counts.iter().sum()));
-        rows.push(format!("\nBad probes: {}\n", self.bad));
-        rows.concat()
-    }
-
-    /// A row with one figure for each kind.
-    fn kind_row(&self, name: &str, figure: impl Fn(&[u64; NUMBERS]) -> u64) -> String {
-        let figures = self.numbers.iter().map(|counts| figure(counts).to_string());
-        row(&[vec![name.to_string()], figures.collect()].concat())
     }
 
     /// A row for each way to make a timetable, with the probes and those that were not sound.
@@ -241,12 +266,12 @@ fn image_in(probe: &Probe) -> Option<&[u8]> {
     match probe {
         Probe::Change { image, .. } | Probe::Owner { image, .. } => Some(image),
         Probe::Standing { image, .. } | Probe::Empty { image } => Some(image),
-        Probe::Bad => None,
+        _ => None,
     }
 }
 
 /// One more of a class.
-fn add(counts: &mut [u64], class: usize) {
+pub fn add(counts: &mut [u64], class: usize) {
     counts[class] += 1;
 }
 
@@ -318,7 +343,7 @@ fn area_class(size: usize) -> usize {
 }
 
 /// A table of two columns with a row for each class.
-fn class_table<T: AsRef<str>>(title: &str, names: &[T], counts: &[u64]) -> String {
+pub fn class_table<T: AsRef<str>>(title: &str, names: &[T], counts: &[u64]) -> String {
     let mut rows = vec![row(&[title, "Count"]), rule(2)];
     for (name, count) in names.iter().zip(counts) {
         rows.push(row(&[name.as_ref(), &count.to_string()]));
@@ -327,12 +352,12 @@ fn class_table<T: AsRef<str>>(title: &str, names: &[T], counts: &[u64]) -> Strin
 }
 
 /// One row of a table.
-fn row<T: AsRef<str>>(cells: &[T]) -> String {
+pub fn row<T: AsRef<str>>(cells: &[T]) -> String {
     let cells: Vec<&str> = cells.iter().map(AsRef::as_ref).collect();
     format!("| {} |\n", cells.join(" | "))
 }
 
 /// The rule below a table's head.
-fn rule(columns: usize) -> String {
+pub fn rule(columns: usize) -> String {
     format!("{}|\n", "|---".repeat(columns))
 }

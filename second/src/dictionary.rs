@@ -1,5 +1,6 @@
 //! The figures of docs/DICTIONARY.md, section by section.
 
+use crate::archived;
 use crate::cases::{all_listed, record, request_a, request_b, request_d, request_j_overfull};
 use crate::change::{Outcome, AREA};
 use crate::desk;
@@ -53,6 +54,7 @@ pub fn add_to(figures: &mut Figures) {
     add_stages_refused(figures);
     desk::add_to(figures);
     add_queries(figures);
+    archived::add_to(figures);
     add_line(figures);
 }
 

@@ -1,5 +1,6 @@
 //! The figures of docs/WORKED.md and of README.md: cases A and B, from their bytes to their lines.
 
+use crate::archive::read_answer;
 use crate::cases::request_a;
 use crate::change::AREA;
 use crate::figures::{code, hexadecimal, list, list_and, thousands, Figures};
@@ -9,8 +10,8 @@ use crate::records::{longest_field, slot_field, HEAD};
 use crate::slots::room;
 use crate::timetable::{Listing, CYCLE};
 use crate::worked::{
-    answer_b, asked_a, asked_b, bytes_b, ids, lines_of, offsets, run_a, run_b, share, shortfalls,
-    slots_block, DETECTOR, LAST_SHOWN, PUMP_LOOP, VALVE,
+    answer_b, asked_a, asked_b, asking_b, bytes_b, ids, lines_of, offsets, run_a, run_b, share,
+    shortfalls, slots_block, DETECTOR, LAST_SHOWN, PUMP_LOOP, VALVE,
 };
 
 /// The figures of both documents.
@@ -20,6 +21,7 @@ pub fn add_to(figures: &mut Figures) {
     figures.block("slots of A", slots_block(&run_a(), 7));
     figures.block("slots of A and B", slots_block(&run_b(), LAST_SHOWN));
     add_worked_change(figures);
+    add_records(figures);
     add_reading(figures);
     add_search(figures);
     add_answer(figures);
@@ -62,6 +64,21 @@ fn add_worked_change(figures: &mut Figures) {
     let (base, placed) = (b.base, list_and(offsets(&b)));
     let from = format!("from the base, slot {base}, on offsets {placed} keep every bound");
     figures.phrase(section, from);
+}
+
+/// "Follow one request": the request as a script writes it, and the answer as the archive reads it.
+fn add_records(figures: &mut Figures) {
+    let section = "Follow one request";
+    let (b, mut area) = (asking_b(), vec![0; bytes_b().len()]);
+    let written = b.write(&mut area).2;
+    let listing = format!("slot {}, T {}, {}", b.slot, b.longest, code(&b.listing));
+    let row = "a script writes the request from a listing";
+    figures.cell(section, row, format!("{listing}: {written} bytes"));
+    let read = read_answer(&answer_b().1).unwrap_or_default();
+    let (length, owners) = (read.owners.len(), list(&read.owners));
+    let offsets = list(read.offsets.iter().flatten());
+    let told = format!("length {length}, owners {owners}, offsets {offsets}");
+    figures.cell(section, "the archive reads the answer record back", told);
 }
 
 /// "Follow one request": the frame, its fields, and the stages before the search.

@@ -1,9 +1,13 @@
-//! An independent model of the timetable changer, written from docs/RULES.md 2 to 9 by slots. It
+//! An independent model of the timetable changer, written from docs/RULES.md 2 to 10 by slots. It
 //! shares no code with the library it is compared with. What each works out how, and what is alike
 //! in both, is in second/README.md.
 
 #![forbid(unsafe_code)]
 
+pub mod archive;
+pub mod archive_counts;
+pub mod archives;
+pub mod asking;
 pub mod breaks;
 pub mod cases;
 pub mod change;
@@ -20,14 +24,18 @@ pub mod random;
 pub mod records;
 pub mod timetable;
 
+mod archived;
 mod damage;
 mod desk;
 mod dictionary;
 mod followed;
 mod run;
 mod slots;
+mod spoil;
 mod worked;
 
+#[cfg(test)]
+mod archives_tests;
 #[cfg(test)]
 mod figures_tests;
 #[cfg(test)]
@@ -35,6 +43,10 @@ mod probe_tests;
 #[cfg(test)]
 mod raising;
 #[cfg(test)]
+mod reading_tests;
+#[cfg(test)]
 mod tests;
 #[cfg(test)]
 mod windows;
+#[cfg(test)]
+mod writing_tests;

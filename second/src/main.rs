@@ -1,9 +1,12 @@
 //! The second program's commands: `lines` answers request frames, `generate` makes them and
-//! `counts` counts the answers; `answers`, `probes` and `probe-counts` do so for probes; `figures`
-//! holds documents against the figures of the cases.
+//! `counts` counts the answers; `answers`, `probes` and `probe-counts` do so for probes, `archives` and
+//! `archive-counts` for those that read answers and write requests; `figures` holds documents against
+//! the figures of the cases.
 
 #![forbid(unsafe_code)]
 
+use second_model::archive_counts::ArchiveCounts;
+use second_model::archives::Archives;
 use second_model::cases;
 use second_model::counts::{ProbeCounts, RequestCounts};
 use second_model::documents::{faults, Document};
@@ -16,15 +19,17 @@ use std::num::IntErrorKind;
 use std::process::ExitCode;
 
 const USAGE: &str = "\
-second lines                    frames from standard input, a line for each request
-second cases                    the cases of docs/RULES.md 11 as request frames to standard output
-second generate SEED COUNT      random request frames to standard output
-second counts SEED COUNT        how often each answer comes in those frames
-second answers                  probe frames from standard input, a line for each probe
-second probes SEED COUNT        the cases and random probes to standard output
-second probe-counts SEED COUNT  how often each answer comes in those probes
-second figures                  the figures that the documents show, worked out
-second figures FILE..           whether the documents show them";
+second lines                      frames from standard input, a line for each request
+second cases                      the cases of docs/RULES.md 11 as request frames to standard output
+second generate SEED COUNT        random request frames to standard output
+second counts SEED COUNT          how often each answer comes in those frames
+second answers                    probe frames from standard input, a line for each probe
+second probes SEED COUNT          the cases and random probes to standard output
+second probe-counts SEED COUNT    how often each answer comes in those probes
+second archives SEED COUNT        cases and random probes that read answers and write requests
+second archive-counts SEED COUNT  how often each answer comes in those probes
+second figures                    the figures that the documents show, worked out
+second figures FILE..             whether the documents show them";
 
 /// The command that the arguments name is run; where they name none, it is said what is wrong.
 fn main() -> ExitCode {
@@ -55,6 +60,8 @@ fn run(words: &[&str]) -> Result<io::Result<()>, String> {
         ["counts", seed, count] => Ok(counts(numbers(seed, count)?)),
         ["probes", seed, count] => Ok(probes(numbers(seed, count)?)),
         ["probe-counts", seed, count] => Ok(probe_counts(numbers(seed, count)?)),
+        ["archives", seed, count] => Ok(archives(numbers(seed, count)?)),
+        ["archive-counts", seed, count] => Ok(archive_counts(numbers(seed, count)?)),
         _ => Err(String::from(USAGE)),
     }
 }
@@ -98,6 +105,11 @@ fn probes((seed, count): (u64, u64)) -> io::Result<()> {
     write_frames(Probes::new(seed, count).map(|made| made.content))
 }
 
+/// Probes that read answers and write requests are written in their frames.
+fn archives((seed, count): (u64, u64)) -> io::Result<()> {
+    write_frames(Archives::new(seed, count).map(|made| made.content))
+}
+
 /// Contents are written in their frames.
 fn write_frames(contents: impl IntoIterator<Item = Vec<u8>>) -> io::Result<()> {
     let mut output = BufWriter::new(io::stdout().lock());
@@ -116,6 +128,12 @@ fn counts((seed, count): (u64, u64)) -> io::Result<()> {
 /// How often each answer comes among the cases and random probes.
 fn probe_counts((seed, count): (u64, u64)) -> io::Result<()> {
     let counts = ProbeCounts::of(Probes::new(seed, count));
+    write!(io::stdout(), "{}", counts.tables())
+}
+
+/// How often each answer comes among probes that read answers and write requests.
+fn archive_counts((seed, count): (u64, u64)) -> io::Result<()> {
+    let counts = ArchiveCounts::of(Archives::new(seed, count));
     write!(io::stdout(), "{}", counts.tables())
 }
 

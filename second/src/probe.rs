@@ -1,6 +1,9 @@
-//! The probe: any timetable, sound or not, any request and any area are put to the model, and
-//! everything that comes back stands in a line. Its protocol is docs/PROBE.md.
+//! The probe: any timetable, sound or not, any request, any archived answer, any listing and any area
+//! are put to the model, and everything that comes back stands in a line. Its protocol is
+//! docs/PROBE.md.
 
+use crate::archive::{tell_answer, tell_field, FieldTold};
+use crate::asking::Asking;
 use crate::change::change;
 use crate::numbers;
 use crate::queries::{owner_query, standing_query};
@@ -8,11 +11,15 @@ use crate::timetable::{Entry, Timetable, IDS, LONGEST_TRANSITION};
 
 /// The bytes of a timetable's image.
 pub const IMAGE: usize = 273;
-/// The kinds of probes: change, owner query, standing query, the empty timetable.
+/// The kinds of probes: change, owner query, standing query, the empty timetable, reading an answer,
+/// writing a request, and a field of an answer.
 pub const CHANGE: u8 = 1;
 pub const OWNER: u8 = 2;
 pub const STANDING: u8 = 3;
 pub const EMPTY: u8 = 4;
+pub const ANSWER: u8 = 5;
+pub const REQUEST: u8 = 6;
+pub const FIELD: u8 = 7;
 
 /// The most zeros that one run of a printed image stands for.
 const LONGEST_RUN: usize = 255;
@@ -24,6 +31,9 @@ pub enum Probe {
     Owner { image: Vec<u8>, slot: u64 },
     Standing { image: Vec<u8>, id: u8, slot: u64 },
     Empty { image: Vec<u8> },
+    Answer { record: Vec<u8>, area: Vec<u8> },
+    Request { asking: Asking, area: Vec<u8> },
+    Field { record: Vec<u8>, place: u64 },
     Bad,
 }
 
@@ -34,6 +44,9 @@ pub enum Reply {
     Owner { number: u8, owner: u8 },
     Standing { number: u8, shortfall: u16, slices: u64 },
     Empty { number: u8, image: Vec<u8> },
+    Answer { number: u8, place: u64, area: Vec<u8> },
+    Request { number: u8, place: u64, written: usize, area: Vec<u8> },
+    Field(FieldTold),
     Bad,
 }
 
@@ -44,12 +57,12 @@ pub fn probe_line(content: &[u8]) -> String {
     line(&probe, &reply)
 }
 
-/// A content's probe; a kind that is none of the four is a bad probe.
+/// A content's probe; a kind that there is not is a bad probe.
 pub fn read_probe(content: &[u8]) -> Probe {
     let mut reader = Reader { content, at: 0 };
     match reader.byte() {
         CHANGE => {
-            let (image, request) = (reader.image(), reader.request());
+            let (image, request) = (reader.image(), reader.bytes());
             Probe::Change { image, request, area: reader.area() }
         }
         OWNER => Probe::Owner { image: reader.image(), slot: reader.number(8) },
@@ -58,6 +71,9 @@ pub fn read_probe(content: &[u8]) -> Probe {
             Probe::Standing { image, id, slot: reader.number(8) }
         }
         EMPTY => Probe::Empty { image: reader.image() },
+        ANSWER => Probe::Answer { record: reader.bytes(), area: reader.area() },
+        REQUEST => Probe::Request { asking: reader.asking(), area: reader.area() },
+        FIELD => Probe::Field { record: reader.bytes(), place: reader.number(8) },
         _ => Probe::Bad,
     }
 }
@@ -110,10 +126,16 @@ impl Reader<'_> {
         }
     }
 
-    /// A request: its length, then its bytes as far as the content goes.
-    fn request(&mut self) -> Vec<u8> {
+    /// A request, a record or a listing: its length, then its bytes as far as the content goes.
+    fn bytes(&mut self) -> Vec<u8> {
         let length = self.number(2);
         (0..length).map_while(|_| self.present()).collect()
+    }
+
+    /// What a request is written from: slot, T and listing.
+    fn asking(&mut self) -> Asking {
+        let (slot, longest) = (self.number(8), self.byte());
+        Asking { slot, longest, listing: self.bytes() }
     }
 
     /// An area: its length, then the rest as the pattern that fills it over and over.
@@ -141,6 +163,9 @@ pub fn put(probe: &Probe) -> Reply {
             Reply::Standing { number, shortfall, slices }
         }
         Probe::Empty { image } => put_empty(image),
+        Probe::Answer { record, area } => put_answer(record, area),
+        Probe::Request { asking, area } => put_request(asking, area),
+        Probe::Field { record, place } => Reply::Field(tell_field(record, *place)),
         Probe::Bad => Reply::Bad,
     }
 }
@@ -172,6 +197,20 @@ fn put_empty(image: &[u8]) -> Reply {
     }
 }
 
+/// An answer is read with a copy of the area that was handed in.
+fn put_answer(record: &[u8], handed: &[u8]) -> Reply {
+    let mut area = handed.to_vec();
+    let (number, place) = tell_answer(record, &mut area);
+    Reply::Answer { number, place, area }
+}
+
+/// A request is written into a copy of the area that was handed in.
+fn put_request(asking: &Asking, handed: &[u8]) -> Reply {
+    let mut area = handed.to_vec();
+    let (number, place, written) = asking.write(&mut area);
+    Reply::Request { number, place, written, area }
+}
+
 /// A reply's line; a query's place is always 0.
 pub fn line(probe: &Probe, reply: &Reply) -> String {
     match reply {
@@ -185,6 +224,15 @@ pub fn line(probe: &Probe, reply: &Reply) -> String {
             format!("standing {number} 0 {shortfall} {slices}")
         }
         Reply::Empty { number, image } => format!("empty {number} {}", image_text(image)),
+        Reply::Answer { number, place, area } => {
+            format!("answer {number} {place} {}", area_text(handed(probe), area))
+        }
+        Reply::Request { number, place, written, area } => {
+            format!("request {number} {place} {written} {}", area_text(handed(probe), area))
+        }
+        Reply::Field(FieldTold { number, place, tag, first, second, next }) => {
+            format!("field {number} {place} {tag} {first} {second} {next}")
+        }
         Reply::Bad => String::from("bad probe"),
     }
 }
@@ -193,6 +241,7 @@ pub fn line(probe: &Probe, reply: &Reply) -> String {
 fn handed(probe: &Probe) -> &[u8] {
     match probe {
         Probe::Change { area, .. } => area,
+        Probe::Answer { area, .. } | Probe::Request { area, .. } => area,
         _ => &[],
     }
 }
@@ -282,8 +331,7 @@ pub fn packed_field(length: u16, packed: &[u8]) -> Vec<u8> {
 
 /// The content of a change probe.
 pub fn change_content(image: &[u8], request: &[u8], area: u16, pattern: &[u8]) -> Vec<u8> {
-    let length = (request.len() as u16).to_be_bytes();
-    [&[CHANGE][..], image, &length[..], request, &area.to_be_bytes()[..], pattern].concat()
+    [&[CHANGE][..], image, &sized(request), &area.to_be_bytes()[..], pattern].concat()
 }
 
 /// The content of an owner probe.
@@ -299,4 +347,26 @@ pub fn standing_content(image: &[u8], id: u8, slot: u64) -> Vec<u8> {
 /// The content of a probe for the empty timetable.
 pub fn empty_content(image: &[u8]) -> Vec<u8> {
     [&[EMPTY][..], image].concat()
+}
+
+/// The content of a probe that reads an answer.
+pub fn answer_content(record: &[u8], area: u16, pattern: &[u8]) -> Vec<u8> {
+    [&[ANSWER][..], &sized(record), &area.to_be_bytes()[..], pattern].concat()
+}
+
+/// The content of a probe that writes a request.
+pub fn request_content(asking: &Asking, area: u16, pattern: &[u8]) -> Vec<u8> {
+    let slot = asking.slot.to_be_bytes();
+    let listing = sized(&asking.listing);
+    [&[REQUEST][..], &slot, &[asking.longest], &listing, &area.to_be_bytes()[..], pattern].concat()
+}
+
+/// The content of a probe that reads the field of an answer at a place.
+pub fn field_content(record: &[u8], place: u64) -> Vec<u8> {
+    [&[FIELD][..], &sized(record), &place.to_be_bytes()[..]].concat()
+}
+
+/// Bytes with their number in two bytes before them.
+fn sized(bytes: &[u8]) -> Vec<u8> {
+    [&(bytes.len() as u16).to_be_bytes()[..], bytes].concat()
 }

@@ -151,7 +151,7 @@ fn contents_cut_off() {
     assert_eq!(probe_line(&[3, 1, 17]), "standing 10 0 0 0");
     assert_eq!(probe_line(&[4, 1, 17, 9]), "empty 0 00ff0012");
     assert_eq!(probe_line(&[4, 1, 16, 9]), "empty 1 0900ff0010");
-    for kind in [0, 5, 255] {
+    for kind in [0, 8, 255] {
         assert_eq!(probe_line(&[kind, 1, 17]), "bad probe");
     }
 }
@@ -187,7 +187,7 @@ fn any_content_is_answered() {
             .map(|_| if small { random.below(4) as u8 } else { random.byte() })
             .collect();
         if let Some(kind) = content.first_mut() {
-            *kind = random.below(6) as u8;
+            *kind = random.below(9) as u8;
         }
         let line = probe_line(&content);
         let parts: Vec<&str> = line.split(' ').collect();
@@ -196,6 +196,9 @@ fn any_content_is_answered() {
             Some(2) => ("owner", 4),
             Some(3) => ("standing", 5),
             Some(4) => ("empty", 3),
+            Some(5) => ("answer", 4),
+            Some(6) => ("request", 5),
+            Some(7) => ("field", 7),
             _ => ("bad", 2),
         };
         assert_eq!((parts[0], parts.len()), form, "{line}");
@@ -284,12 +287,13 @@ fn a_seed_always_gives_the_same_probes() {
 fn the_probes_reach_every_answer() {
     let counts = ProbeCounts::of(Probes::new(1, 6000));
     let reached = |kind: usize, numbers: &[usize], least| {
-        numbers.iter().all(|&number| counts.numbers[kind][number] >= least)
+        numbers.iter().all(|&number| counts.kinds.numbers[kind][number] >= least)
     };
-    assert!(reached(0, &[0, 1, 2, 3, 4, 5, 6, 7, 8, 9, 11], 40), "{:?}", counts.numbers[0]);
-    assert!(reached(1, &[0, 1, 4, 6], 20), "{:?}", counts.numbers[1]);
-    assert!(reached(2, &[0, 1, 4, 6, 10], 20), "{:?}", counts.numbers[2]);
-    assert!(reached(3, &[0, 1], 1) && counts.bad > 20, "{:?}", counts.numbers[3]);
+    let numbers = counts.kinds.numbers;
+    assert!(reached(0, &[0, 1, 2, 3, 4, 5, 6, 7, 8, 9, 11], 40), "{:?}", numbers[0]);
+    assert!(reached(1, &[0, 1, 4, 6], 20), "{:?}", numbers[1]);
+    assert!(reached(2, &[0, 1, 4, 6, 10], 20), "{:?}", numbers[2]);
+    assert!(reached(3, &[0, 1], 1) && counts.kinds.bad > 20, "{:?}", numbers[3]);
     assert!(counts.wants.least() >= 10, "{:?}", counts.wants);
     assert!(counts.lengths.iter().all(|&count| count > 30), "{:?}", counts.lengths);
     assert!(counts.areas.iter().all(|&count| count > 60), "{:?}", counts.areas);
@@ -299,7 +303,7 @@ fn the_probes_reach_every_answer() {
 /// About a fifth of the change probes have a timetable that is not sound.
 #[test]
 fn most_changes_are_of_sound_timetables() {
-    let counts = ProbeCounts::of(Probes::new(2, 6000)).numbers[0];
+    let counts = ProbeCounts::of(Probes::new(2, 6000)).kinds.numbers[0];
     let all: u64 = counts.iter().sum();
     assert!((15..25).contains(&(counts[1] * 100 / all)), "{} of {all}", counts[1]);
 }

@@ -67,12 +67,7 @@ impl Probes {
             193..=196 => empty_content(&field),
             _ => self.unknown_kind(&field),
         };
-        match self.random.below(100) {
-            0..=1 => content.truncate(self.random.below(content.len() as u64 + 1) as usize),
-            2 => content.extend((0..self.random.below(12)).map(|_| self.random.byte())),
-            _ => (),
-        }
-        content.truncate(LONGEST_FRAME);
+        trim(&mut self.random, &mut content);
         Made { content, origin: subject.origin }
     }
 
@@ -133,7 +128,8 @@ impl Probes {
         let mut image = image_of(timetable);
         for _ in 0..self.random.between(1, 4) {
             let at = self.random.below(IMAGE as u64) as usize;
-            image[at] = if self.random.chance(1, 2) { self.random.byte() } else { self.small() };
+            let any = self.random.chance(1, 2);
+            image[at] = if any { self.random.byte() } else { small_number(&mut self.random) };
         }
         image
     }
@@ -199,7 +195,7 @@ impl Probes {
             1 => self.random_bytes(),
             _ => subject.request.clone(),
         };
-        let pattern = self.pattern();
+        let pattern = pattern(&mut self.random);
         let area = self.area();
         if self.random.chance(7, 8) {
             request.truncate(LONGEST_FRAME.saturating_sub(field.len() + pattern.len() + 5));
@@ -212,7 +208,9 @@ impl Probes {
         let most = self.random.pick(&[4, 40, 40, 400]).unwrap_or(4);
         let small = self.random.chance(2, 3);
         let count = self.random.below(most);
-        (0..count).map(|_| if small { self.small() } else { self.random.byte() }).collect()
+        (0..count)
+            .map(|_| if small { small_number(&mut self.random) } else { self.random.byte() })
+            .collect()
     }
 
     /// An area's length: around 231, none, one, or up to the most that there is.
@@ -229,26 +227,6 @@ impl Probes {
             98 => u16::MAX,
             _ => self.random.between(5001, 65535) as u16,
         }
-    }
-
-    /// A pattern: none, one byte, a few, bytes that answers have too, or more than an area.
-    fn pattern(&mut self) -> Vec<u8> {
-        let few = self.random.between(2, 9);
-        let count = match self.random.below(64) {
-            0..=9 => 0,
-            10..=29 => 1,
-            30..=59 => few,
-            60..=62 => self.random.between(10, 70),
-            _ => self.random.between(200, 330),
-        };
-        let alike = self.random.chance(1, 3);
-        (0..count).map(|_| if alike { self.answer_byte() } else { self.random.byte() }).collect()
-    }
-
-    /// A byte that answers have in many places.
-    fn answer_byte(&mut self) -> u8 {
-        let small = self.small();
-        self.random.pick(&[0x10, 0x11, 0x12, 0, 0, 1, 2, small]).unwrap_or(small)
     }
 
     /// A slot around the request slot, the transition and the base, or far off.
@@ -287,22 +265,52 @@ impl Probes {
 
     /// A content of a kind that there is not.
     fn unknown_kind(&mut self, field: &[u8]) -> Vec<u8> {
-        let kind = self.random.pick(&[0, 5, 0x40, u8::MAX]).unwrap_or(0);
+        let kind = self.random.pick(&[0, 8, 0x40, u8::MAX]).unwrap_or(0);
         if self.random.chance(1, 4) {
             Vec::new()
         } else {
             [&[kind][..], field].concat()
         }
     }
+}
 
-    /// A small number.
-    fn small(&mut self) -> u8 {
-        self.random.below(10) as u8
+/// A pattern: none, one byte, a few, bytes that answers have too, or more than an area.
+pub fn pattern(random: &mut Random) -> Vec<u8> {
+    let few = random.between(2, 9);
+    let count = match random.below(64) {
+        0..=9 => 0,
+        10..=29 => 1,
+        30..=59 => few,
+        60..=62 => random.between(10, 70),
+        _ => random.between(200, 330),
+    };
+    let alike = random.chance(1, 3);
+    (0..count).map(|_| if alike { answer_byte(random) } else { random.byte() }).collect()
+}
+
+/// A byte that answers have in many places.
+fn answer_byte(random: &mut Random) -> u8 {
+    let small = small_number(random);
+    random.pick(&[0x10, 0x11, 0x12, 0, 0, 1, 2, small]).unwrap_or(small)
+}
+
+/// A small number.
+fn small_number(random: &mut Random) -> u8 {
+    random.below(10) as u8
+}
+
+/// A content is now and then cut off or goes on; it never has more bytes than a frame can hold.
+pub fn trim(random: &mut Random, content: &mut Vec<u8>) {
+    match random.below(100) {
+        0..=1 => content.truncate(random.below(content.len() as u64 + 1) as usize),
+        2 => content.extend((0..random.below(12)).map(|_| random.byte())),
+        _ => (),
     }
+    content.truncate(LONGEST_FRAME);
 }
 
 /// A history of some requests from the empty timetable.
-fn fresh_history(random: &mut Random) -> Generator {
+pub fn fresh_history(random: &mut Random) -> Generator {
     let requests = random.between(40, 400);
     Generator::new(random.bits(), requests)
 }

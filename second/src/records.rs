@@ -93,15 +93,19 @@ fn in_range(holds: bool, at: usize) -> Result<(), Refusal> {
     }
 }
 
-/// The answer: transition length, owners, then each listed id with its offset, ids rising.
+/// The answer: the record of its transition and of each listed id's offset.
 pub fn write_answer(timetable: &Timetable) -> Vec<u8> {
-    let owners = timetable.transition();
-    let mut answer = vec![TAG_LENGTH, 0, 1, timetable.length, TAG_OWNERS, 0, owners.len() as u8];
+    let offsets = timetable.entries.map(|entry| entry.listed().then_some(entry.offset));
+    answer_record(timetable.transition(), &offsets)
+}
+
+/// An answer's record: transition length, owners, then each listed id with its offset, ids rising.
+pub fn answer_record(owners: &[u8], offsets: &[Option<u8>; IDS]) -> Vec<u8> {
+    let length = owners.len() as u8;
+    let mut answer = vec![TAG_LENGTH, 0, 1, length, TAG_OWNERS, 0, length];
     answer.extend_from_slice(owners);
-    for (id, entry) in (0u8..).zip(&timetable.entries) {
-        if entry.listed() {
-            answer.extend_from_slice(&[TAG_OFFSET, 0, 2, id, entry.offset]);
-        }
+    for (id, offset) in (0u8..).zip(offsets) {
+        answer.extend(offset.iter().flat_map(|&offset| [TAG_OFFSET, 0, 2, id, offset]));
     }
     answer
 }

@@ -1,5 +1,7 @@
 //! The cases as the documents work them through: what is asked, and the runs they make.
 
+use crate::archive::read_answer;
+use crate::asking::Asking;
 use crate::cases::{record, request_a, request_b, request_d};
 use crate::change::{change, Outcome, AREA};
 use crate::figures::aligned;
@@ -292,4 +294,30 @@ pub fn least_room(listing: &Listing, at: &Waiting) -> (u16, Vec<u8>) {
 /// What a share's shortfall stays below: 256 R.
 pub fn limit_of(share: Share) -> usize {
     CYCLE * usize::from(share.bound)
+}
+
+/// Some bytes with one of them changed.
+pub fn bytes_with(bytes: &[u8], at: usize, is: u8) -> Vec<u8> {
+    let mut changed = bytes.to_vec();
+    changed[at] = is;
+    changed
+}
+
+/// The base and each listed id's first cyclic slot, from a request and its answer record alone.
+pub fn slots_from_records(request: &[u8], record: &[u8]) -> (u64, Vec<(u8, u64)>) {
+    let schedule = read_answer(record).unwrap_or_default();
+    let base = asked(request).slot + schedule.owners.len() as u64;
+    let first = (0..).zip(&schedule.offsets).filter_map(|(id, offset)| Some((id, (*offset)?)));
+    (base, first.map(|(id, offset)| (id, base + u64::from(offset))).collect())
+}
+
+/// What case B's request is written from.
+pub fn asking_b() -> Asking {
+    let asked = asked_b();
+    let entry = |id: u8| {
+        let share = share(&asked.listing, id);
+        [id, share.period.trailing_zeros() as u8, share.bound]
+    };
+    let listing = ids(&asked.listing).into_iter().flat_map(entry).collect();
+    Asking { slot: asked.slot, longest: asked.longest, listing }
 }
