@@ -1,7 +1,8 @@
 //! All answers of the library and the port held against each other, before anything is timed.
 
-use port::{AREA, IMAGE};
+use port::{AREA, IMAGE, LAST_SLOT, LONGEST, SCHEDULE};
 
+use crate::archive::{Archive, Figures, REQUEST};
 use crate::inputs::{empty_image, Input, Query};
 use crate::library;
 use crate::random::Random;
@@ -96,4 +97,62 @@ pub fn stream(frames: &[u8]) -> Agreed {
         rest = after;
     }
     Ok(count)
+}
+
+/// One answer read by both: number, place and area.
+fn same_reading(answer: &[u8], area: usize) -> Result<(), String> {
+    let (mut area_a, mut area_b) = (vec![FILL; area], vec![FILL; area]);
+    let a = library::read_answer(answer, &mut area_a);
+    let b = port::read_answer(answer, &mut area_b);
+    if a != b || area_a != area_b {
+        return Err(format!("reading differs: library {a:?}, port {b:?}, answer {answer:?}"));
+    }
+    Ok(())
+}
+
+/// One request written by both: number, place, bytes written and area.
+fn same_writing(figures: &Figures, area: usize) -> Result<(), String> {
+    let Figures { slot, longest, listing } = figures;
+    let (mut area_a, mut area_b) = (vec![FILL; area], vec![FILL; area]);
+    let a = library::write_request(*slot, *longest, listing, &mut area_a);
+    let b = port::write_request(*slot, *longest, listing, &mut area_b);
+    if a != b || area_a != area_b {
+        return Err(format!("writing differs: library {a:?}, port {b:?}, listing {listing:?}"));
+    }
+    Ok(())
+}
+
+/// Reading and writing, also with areas too small and larger, and with bytes changed.
+pub fn archives(seed: u64, archive: &Archive) -> Agreed {
+    let mut random = Random::new(seed);
+    for answer in &archive.answers {
+        for area in [SCHEDULE, SCHEDULE - 1, SCHEDULE + 7] {
+            same_reading(answer, area)?;
+        }
+        same_reading(&changed(&mut random, answer), SCHEDULE)?;
+    }
+    for figures in &archive.figures {
+        let bytes = 15 + 2 * figures.listing.len();
+        for area in [REQUEST, bytes - 1, bytes] {
+            same_writing(figures, area)?;
+        }
+        let listing = changed(&mut random, &figures.listing);
+        same_writing(&Figures { listing, ..*figures }, REQUEST)?;
+        let slot = random.pick(&[figures.slot, LAST_SLOT, LAST_SLOT + 1, u64::MAX]);
+        let longest = random.pick(&[0, LONGEST as u8, LONGEST as u8 + 1, u8::MAX]);
+        same_writing(&Figures { slot, longest, ..figures.clone() }, REQUEST)?;
+    }
+    Ok(4 * archive.answers.len() + 5 * archive.figures.len())
+}
+
+/// The same bytes with one of them changed, cut short, or with a byte more.
+fn changed(random: &mut Random, bytes: &[u8]) -> Vec<u8> {
+    let mut bytes = bytes.to_vec();
+    let at = random.below(bytes.len() as u64) as usize;
+    match random.below(4) {
+        0 => bytes.truncate(at),
+        1 => bytes.push(random.below(256) as u8),
+        _ => bytes[at] ^= 1 << random.below(8),
+    }
+    bytes
 }

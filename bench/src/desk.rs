@@ -2,8 +2,9 @@
 
 use std::hint::black_box;
 
-use port::{AREA, IMAGE};
+use port::{AREA, IMAGE, SCHEDULE};
 
+use crate::archive::{Figures, REQUEST};
 use crate::inputs::{Input, Query};
 use crate::library;
 
@@ -56,4 +57,34 @@ pub fn library_standing(query: &Query) {
 /// A standing query by the port.
 pub fn port_standing(query: &Query) {
     black_box(port::standing(&query.image, query.id, black_box(query.slot)));
+}
+
+/// An answer read by the library.
+pub fn library_reading(answer: &Vec<u8>) {
+    let mut area = [0; SCHEDULE];
+    black_box(library::read_answer(black_box(answer), &mut area));
+    black_box(area);
+}
+
+/// An answer read by the port.
+pub fn port_reading(answer: &Vec<u8>) {
+    let mut area = [0; SCHEDULE];
+    black_box(port::read_answer(black_box(answer), &mut area));
+    black_box(area);
+}
+
+/// A request written by the library.
+pub fn library_writing(figures: &Figures) {
+    let Figures { slot, longest, listing } = black_box(figures);
+    let mut area = [0; REQUEST];
+    black_box(library::write_request(*slot, *longest, listing, &mut area));
+    black_box(area);
+}
+
+/// A request written by the port.
+pub fn port_writing(figures: &Figures) {
+    let Figures { slot, longest, listing } = black_box(figures);
+    let mut area = [0; REQUEST];
+    black_box(port::write_request(*slot, *longest, listing, &mut area));
+    black_box(area);
 }

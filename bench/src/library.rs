@@ -1,7 +1,7 @@
 //! The library through its C interface. Slices pass as pointer and length. What it is to write is
 //! poisoned first, so that a value it leaves unwritten shows.
 
-use port::{Outcome, OwnerAnswer, StandingAnswer};
+use port::{Outcome, OwnerAnswer, Refusal, StandingAnswer, Writing};
 
 extern "C" {
     fn tarnflaw_empty(image: *mut u8, image_len: usize) -> u8;
@@ -31,6 +31,23 @@ extern "C" {
         place: *mut usize,
         shortfall: *mut u16,
         slices: *mut u64,
+    ) -> u8;
+    fn tarnflaw_read_answer(
+        answer: *const u8,
+        answer_len: usize,
+        area: *mut u8,
+        area_len: usize,
+        place: *mut usize,
+    ) -> u8;
+    fn tarnflaw_write_request(
+        slot: u64,
+        limit: u8,
+        listing: *const u8,
+        listing_len: usize,
+        area: *mut u8,
+        area_len: usize,
+        place: *mut usize,
+        written: *mut usize,
     ) -> u8;
 }
 
@@ -87,4 +104,39 @@ pub fn standing(image: &[u8], id: u8, slot: u64) -> StandingAnswer {
         )
     };
     answer
+}
+
+/// Reads an archived answer into an area.
+pub fn read_answer(answer: &[u8], area: &mut [u8]) -> Refusal {
+    let mut told = Refusal { number: 0, place: usize::MAX };
+    // SAFETY: the pointers and lengths are those of slices and values lent for the call.
+    told.number = unsafe {
+        tarnflaw_read_answer(
+            answer.as_ptr(),
+            answer.len(),
+            area.as_mut_ptr(),
+            area.len(),
+            &mut told.place,
+        )
+    };
+    told
+}
+
+/// Writes a request to an area.
+pub fn write_request(slot: u64, limit: u8, listing: &[u8], area: &mut [u8]) -> Writing {
+    let mut told = Writing { number: 0, place: usize::MAX, written: usize::MAX };
+    // SAFETY: the pointers and lengths are those of slices and values lent for the call.
+    told.number = unsafe {
+        tarnflaw_write_request(
+            slot,
+            limit,
+            listing.as_ptr(),
+            listing.len(),
+            area.as_mut_ptr(),
+            area.len(),
+            &mut told.place,
+            &mut told.written,
+        )
+    };
+    told
 }

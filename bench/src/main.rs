@@ -1,6 +1,7 @@
 //! The library and the plain port, side by side on the same inputs.
 //! bench SEED FRAMES CHANGER PORT: FRAMES is a file for the programs CHANGER and PORT.
 
+mod archive;
 mod compare;
 mod desk;
 mod inputs;
@@ -19,6 +20,7 @@ mod worst;
 
 use std::error::Error;
 
+use archive::Archive;
 use desk::Desk;
 use inputs::{listed_ids, Input};
 use port::number::{ACCEPTED, LENGTHS_EXHAUSTED};
@@ -51,7 +53,11 @@ fn main() -> Result<(), Box<dyn Error>> {
     let inputs = all_inputs(arguments.seed);
     let asked = rows::asked(arguments.seed, &inputs);
     verify_worst(&inputs)?;
-    compare_calls(&arguments, &inputs, &asked)?;
+    let archives = [
+        ("(a)", archive::archive(&inputs.source)),
+        ("(b) found at 64", archive::archive(&inputs.found)),
+    ];
+    compare_calls(&arguments, &inputs, &asked, &archives)?;
     let frames = compare_programs(&arguments)?;
     let Arguments { changer, port, frames: file, .. } = &arguments;
     let sections = [
@@ -59,6 +65,7 @@ fn main() -> Result<(), Box<dyn Error>> {
         rows::worst(&inputs),
         rows::query_section(&asked),
         rows::programs(changer, port, file, frames)?,
+        rows::archives(&archives),
     ];
     sections.iter().for_each(Section::print);
     describe(&inputs.source);
@@ -98,7 +105,12 @@ fn verify_worst(inputs: &Inputs) -> Result<(), String> {
 }
 
 /// Holds all answers of both against each other.
-fn compare_calls(arguments: &Arguments, inputs: &Inputs, asked: &[Asked]) -> Result<(), String> {
+fn compare_calls(
+    arguments: &Arguments,
+    inputs: &Inputs,
+    asked: &[Asked],
+    archives: &[(&str, Archive)],
+) -> Result<(), String> {
     let seed = arguments.seed;
     let mut calls = compare::empty()?;
     for inputs in [&inputs.source, &inputs.exhausted, &inputs.found] {
@@ -106,6 +118,9 @@ fn compare_calls(arguments: &Arguments, inputs: &Inputs, asked: &[Asked]) -> Res
     }
     for row in asked {
         calls += compare::queries(&row.queries)?;
+    }
+    for (_, archive) in archives {
+        calls += compare::archives(seed, archive)?;
     }
     let images = queries::timetables(&inputs.source, 1, IDS);
     calls += compare::queries(&queries::odd_queries(seed, &images, ODD))?;
@@ -151,7 +166,7 @@ fn print_stack(inputs: &Inputs) {
 }
 
 /// Prints which goals are met.
-fn print_goals(sections: &[Section; 4]) {
+fn print_goals(sections: &[Section; 5]) {
     let [source, worst, ..] = sections;
     let all = source.rows[0].library();
     table::goals_head();

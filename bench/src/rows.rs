@@ -4,6 +4,7 @@ use std::io;
 
 use port::IDS;
 
+use crate::archive::Archive;
 use crate::desk::{self, Desk};
 use crate::inputs::{Input, Query};
 use crate::program;
@@ -21,7 +22,7 @@ const RUNS: usize = 9;
 const SOURCE_EFFORT: Effort = Effort { batch: 16, rounds: 21 };
 /// How often a worst request is timed.
 const WORST_EFFORT: Effort = Effort { batch: 4, rounds: 41 };
-/// How often a query is timed.
+/// How often a query, a reading or a writing is timed.
 const QUERY_EFFORT: Effort = Effort { batch: 64, rounds: 15 };
 
 /// The inputs of all changes: the 2021 paper's, and the worst in vain and found at the last length.
@@ -105,6 +106,20 @@ pub fn query_section(asked: &[Asked]) -> Section {
         rows.push(Row { name: format!("standing, {name}"), counted: "inputs", times });
     }
     Section { letter: "c", title: "Queries", rows }
+}
+
+/// Reading the answers and writing the requests of some archives, each with its name.
+pub fn archives(archives: &[(&str, Archive)]) -> Section {
+    let mut rows = Vec::new();
+    for (name, Archive { answers, .. }) in archives {
+        let times = timing::each(answers, QUERY_EFFORT, desk::library_reading, desk::port_reading);
+        rows.push(Row { name: format!("reading an answer, {name}"), counted: "inputs", times });
+    }
+    for (name, Archive { figures, .. }) in archives {
+        let times = timing::each(figures, QUERY_EFFORT, desk::library_writing, desk::port_writing);
+        rows.push(Row { name: format!("writing a request, {name}"), counted: "inputs", times });
+    }
+    Section { letter: "e", title: "Archived answers, and requests from figures", rows }
 }
 
 /// The programs, each run's time shared out over its frames.

@@ -2,6 +2,7 @@
 //! against it, so it offers the library's interface: a timetable passes as an image of 273 bytes.
 #![forbid(unsafe_code)]
 
+mod archive;
 mod change;
 mod cycle;
 mod entry;
@@ -11,6 +12,7 @@ mod records;
 mod search;
 mod timetable;
 
+pub use archive::{Writing, SCHEDULE};
 pub use change::{change_timetable, Outcome};
 pub use image::IMAGE;
 pub use queries::{OwnerAnswer, StandingAnswer};
@@ -32,7 +34,7 @@ pub mod number {
     pub const LENGTHS_EXHAUSTED: u8 = 11;
 }
 
-/// The number and the place of a refusal.
+/// The number and the place of a refusal, or of an acceptance that tells no more.
 #[derive(Clone, Copy, Debug, PartialEq, Eq)]
 pub struct Refusal {
     pub number: u8,
@@ -87,5 +89,27 @@ pub fn standing(image: &[u8], id: u8, slot: u64) -> StandingAnswer {
     match <&[u8; IMAGE]>::try_from(image) {
         Ok(image) => queries::standing(&image::read(image), id, slot),
         Err(_) => StandingAnswer::refused(number::NOT_SOUND),
+    }
+}
+
+/// Reads an archived answer; the schedule goes to the area.
+#[inline(never)]
+pub fn read_answer(answer: &[u8], area: &mut [u8]) -> Refusal {
+    match (archive::read(answer), area.get_mut(..SCHEDULE)) {
+        (Err(refusal), _) => refusal,
+        (Ok(_), None) => Refusal::at(number::SMALL_AREA, 0),
+        (Ok(schedule), Some(area)) => {
+            area.copy_from_slice(&schedule);
+            Refusal::at(number::ACCEPTED, 0)
+        }
+    }
+}
+
+/// Writes a request to the area. The listing has three bytes an entry: id, k, R.
+#[inline(never)]
+pub fn write_request(slot: u64, longest: u8, listing: &[u8], area: &mut [u8]) -> Writing {
+    match archive::check(slot, longest, listing) {
+        Ok(()) => archive::write(slot, longest, listing, area),
+        Err(Refusal { number, place }) => Writing { number, place, written: 0 },
     }
 }

@@ -39,7 +39,7 @@ pub fn read_request(record: &[u8]) -> Result<Request, Refusal> {
 }
 
 /// The content of the field at a place, if it has this tag and length.
-fn content(record: &[u8], at: usize, tag: u8, length: usize) -> Option<&[u8]> {
+pub fn content(record: &[u8], at: usize, tag: u8, length: usize) -> Option<&[u8]> {
     let head = record.get(at..at + HEAD)?;
     if head != [tag, 0, length as u8] {
         return None;
