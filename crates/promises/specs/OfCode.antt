@@ -14,7 +14,7 @@ use Rattle.change.specs.Queried.{OwnerGiven, StandingGiven, ownerAnswer, standi
 use Rattle.change.specs.Queries.{ownerQuery, standingQuery}
 use Rattle.change.specs.Refused.{StagesSay}
 use Rattle.promises.specs.Promises.{LargerT, Passes, RaisedT, ReadAs, ServesOne, ShortestOf, ShortfallMeans, WindowsKept}
-use Rattle.records.specs.AnswerRead.{fieldAt, noSchedule, toldOwner, readAnswer, readFrom, scheduleOf}
+use Rattle.records.specs.AnswerRead.{fieldAt, noSchedule, readAnswer, readFrom, scheduleOf, toldOwner}
 use Rattle.records.specs.AnswerReads.{AnswerRead, FieldRead}
 use Rattle.records.specs.declared.AnswerStep.{AnswerStep}
 use Rattle.records.specs.declared.ReadAnswer.{ReadAnswer}
@@ -102,8 +102,9 @@ pub record QueriesOfCode : Type 0 where
       → (r : StandingAnswer) → r ≡ standingQuery (present h) i (coreSlot x)
       → r ≡ standingAnswer ACCEPTED (shortfall (runOf h) i x) (sliceCount (supply (runOf h) i (present h .base .0) (x - present h .base .0)))
 
--- What the lab network reads and writes: a record is read as the rules say and only so, whole, from any place on and a field at a time, and what a `change` wrote is read as the schedule of its timetable;
--- a request is written as the rules say and only so, and the controller reads what was written as the same slot, T and listing.
+-- What the lab network reads and writes: a record is read as the rules say and only so, whole, from any place on and a field at a time, and what a
+-- `change` wrote is read as the schedule of its timetable; a request is written as the rules say and only so, and the controller reads what was written as
+-- the same slot, T and listing.
 pub record ArchiveOfCode : Type 0 where
   pub answer : (s : List ℕ) (at : ℕ) (x : ReadAnswer) → (x ≡ readFrom s at) ↔ AnswerRead s at noSchedule x
   pub field : (s : List ℕ) (at : ℕ) (x : AnswerStep) → (x ≡ fieldAt s at) ↔ FieldRead s at x

@@ -219,9 +219,10 @@ abbrev pub RaisingT : Type 0
 RaisingT = (t : Timetable) (s s′ area : List ℕ) → LargerT s s′
     → RaisedT (readRequest s .request .limit) (outcome t s area) (areaAfter t s area) (outcome t s′ area) (areaAfter t s′ area)
 
--- 14. Reading an answer. Each record is read, or refused 3 at the one place, as its fields say, from its start and from any place on; one that is read is the one record of what was read, and
--- what was read is in range; a schedule in range is read back from its record; and reading what a change wrote gives back the new timetable's length,
--- owners and offsets. (Shuts out: an id that equals the one before let through; bytes after the last field ignored; a fault told at the next field's place.)
+-- 14. Reading an answer. Each record is read, or refused 3 at the one place, as its fields say, from its start and from any place on; one that is read is
+-- the one record of what was read, and what was read is in range; a schedule in range is read back from its record; and reading what a change wrote gives
+-- back the new timetable's length, owners and offsets.
+-- (Shuts out: an id that equals the one before let through; bytes after the last field ignored; every fault told at place 0.)
 pub record AnswersRead : Type 0 where
   pub given : (s : List ℕ) (at : ℕ) → AnswerRead s at noSchedule (readFrom s at)
   pub only : (s : List ℕ) (at : ℕ) (x : ReadAnswer) → AnswerRead s at noSchedule x → readFrom s at ≡ x
