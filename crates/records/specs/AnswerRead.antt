@@ -82,7 +82,7 @@ ownersStand s = leb (toldLength s) LONGEST && isField s 4 0x11 (toldLength s) &&
 unfoldable pub ownersField : List ℕ → AnswerStep
 ownersField s = cond (ownersStand s) (record { field = Owners (toldLength s); next = 7 + toldLength s }) (refusedAt 4)
 
--- The lowest id that the field at a place may have: 0 behind the owners, else the one above that of the field before, which begins five bytes earlier.
+-- The lowest id that the field at a place may have: 0 up to the place behind the owners, else one above that of the field before, five bytes earlier.
 unfoldable pub floorAt : List ℕ → ℕ → ℕ
 floorAt s at = cond (leb at (7 + toldLength s)) 0 (suc (contentAt s (at - 5) 0))
 
@@ -118,7 +118,7 @@ wholeAnswer x = record { reading = Whole; schedule = x }
 abbrev pub refusedAnswer : Refusal → ReadAnswer
 refusedAnswer r = record { reading = Refused r; schedule = noSchedule }
 
--- What was read, or the refusal with which reading ended.
+-- How reading ends: with the refusal of a field, or with what was read. (Behind a length, owners or an offset it goes on.)
 unfoldable pub readEnd : Schedule → AnswerField → ReadAnswer
 readEnd x (field-refused r) = refusedAnswer r
 readEnd x (Length n) = wholeAnswer x

@@ -1,14 +1,12 @@
 // Reading an answer in a record that is lent, by its places. It refuses 3 for every other form than the controller's, at the place of the field in which that shows.
-ghost use mathlib.Core.Bool.{_&&_};
 ghost use mathlib.Core.Logic.{_≢_};
 ghost use mathlib.Core.Path.{_≡_};
 ghost use Prim.Native.Nat.{_+_, _≤_, _<_};
-ghost use lib.Dec.{leb, ltb};
+ghost use lib.Dec.{leb};
 ghost use lib.ListN.{length, replicate};
 ghost use Rattle.numbers.specs.Numbers.{BAD-FIELD, refusal};
-ghost use Rattle.records.specs.AnswerRead.{areOwners, fieldAt, floorAt, lengthField, lengthStands, noOffset, noSchedule, offsetField, offsetStands, toldOwner, ownersBelow, ownersField, ownersStand, readFrom, refusedAnswer, refusedAt, toldLength};
+ghost use Rattle.records.specs.AnswerRead.{areOwners, fieldAt, floorAt, lengthField, lengthStands, noOffset, noSchedule, offsetField, offsetStands, ownersBelow, ownersField, ownersStand, readFrom, refusedAnswer, refusedAt, toldLength, toldOwner};
 ghost use Rattle.records.specs.AnswerReads.{AnswerRead};
-ghost use Rattle.records.specs.Request.{contentAt, isField};
 ghost use Rattle.slots.specs.Limits.{IDS, LONGEST};
 use super::AnswerField;
 use super::AnswerStep;

@@ -1,7 +1,7 @@
 // Reading a request, left to right. It refuses 3 for a field's form, 4 for a value out of range and 5 for an id that is not above the one before.
 ghost use lib.ListN.{length};
 ghost use mathlib.Core.Path.{_≡_};
-ghost use Prim.Native.Nat.{_+_, _^_, _≤_, _<_};
+ghost use Prim.Native.Nat.{_+_, _^_, _≤_};
 ghost use Rattle.numbers.specs.declared.Refusal.{Refusal};
 ghost use Rattle.records.specs.Request.{contentAt, isListing, listedAs, listedField, noAsks, numberField, readListing, readRequest, refusedRequest, withListing};
 ghost use Rattle.slots.specs.Limits.{LARGEST-K};
