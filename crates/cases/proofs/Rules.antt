@@ -1,6 +1,6 @@
 -- Every definition that a case computes with: `unfolding rules` opens them all.
 use Rattle.change.specs.Change.{numberOf, placeOf, timetableOf, startPlan, searchOf, answerOf, answerTo, answer, recordOf}
-use Rattle.change.specs.Stages.{askedBound, entering, startEntries, weightSum, overfull, isBehind, behind, stageSound, stageArea, stageFields, stageEarly, stageOverfull, stageBehind, stagesFirst, stagesListed, verdictBefore}
+use Rattle.change.specs.Stages.{boundBefore, askedBound, entering, startEntries, weightSum, overfull, isBehind, behind, stageSound, stageArea, stageFields, stageEarly, stageOverfull, stageBehind, stagesFirst, stagesListed, verdictBefore}
 use Rattle.frames.specs.Program.{isFrame, frameContent, frameRest, digits, decimal, answeredLength, lineOf, line, linesFrom, programLines}
 use Rattle.numbers.specs.Chain.{orElse, firstOf, refusedAt}
 use Rattle.placement.specs.Placement.{demandOf, comesBefore, insert, ordered, isTaken, allFree, lastFree, placeFrom, placement, settle}
@@ -14,5 +14,5 @@ use Rattle.timetable.specs.Timetable.{each, cyclic, shortfallAfter, shortfallAt
 use Rattle.transition.specs.Transition.{moreUrgent, mostUrgent, isMissed, overAll, longer, ended, passed, placed, searchFrom}
 
 unfoldable pub rules : Unit {0}
-unfolding numberOf placeOf timetableOf startPlan searchOf answerOf answerTo answer recordOf orElse firstOf refusedAt askedBound entering startEntries weightSum overfull isBehind behind stageSound stageArea stageFields stageEarly stageOverfull stageBehind stagesFirst stagesListed verdictBefore isFrame frameContent frameRest digits decimal answeredLength lineOf line linesFrom programLines demandOf comesBefore insert ordered isTaken allFree lastFree placeFrom placement settle field rising answerRecord numberAt lengthAt contentAt isField numberField isListing listedAs listedField readListing refusedRequest withListing readRequest every first weightOf overSlot keeps roomOf lastOffsetOf isOwner own shortfall requestInRange lengthInRange baseAsStated ownersListed isPeriod isBound entryInRange entryBlank entriesInRange shareNone noneShared unusedOwnersZero isSound each cyclic shortfallAfter shortfallAt moreUrgent mostUrgent isMissed overAll longer ended passed placed searchFrom
+unfolding numberOf placeOf timetableOf startPlan searchOf answerOf answerTo answer recordOf orElse firstOf refusedAt boundBefore askedBound entering startEntries weightSum overfull isBehind behind stageSound stageArea stageFields stageEarly stageOverfull stageBehind stagesFirst stagesListed verdictBefore isFrame frameContent frameRest digits decimal answeredLength lineOf line linesFrom programLines demandOf comesBefore insert ordered isTaken allFree lastFree placeFrom placement settle field rising answerRecord numberAt lengthAt contentAt isField numberField isListing listedAs listedField readListing refusedRequest withListing readRequest every first weightOf overSlot keeps roomOf lastOffsetOf isOwner own shortfall requestInRange lengthInRange baseAsStated ownersListed isPeriod isBound entryInRange entryBlank entriesInRange shareNone noneShared unusedOwnersZero isSound each cyclic shortfallAfter shortfallAt moreUrgent mostUrgent isMissed overAll longer ended passed placed searchFrom
 rules = tt

@@ -69,6 +69,10 @@ head slot limit = field 1 (0 ∷ 0 ∷ 0 ∷ 0 ∷ 0 ∷ 0 ∷ 0 ∷ slot ∷ []
 unfoldable pub lists : ℕ → ℕ → ℕ → List ℕ
 lists id k bound = field 3 (id ∷ k ∷ bound ∷ [])
 
+-- Helper of cases: the short field that lists an id with k.
+unfoldable pub short : ℕ → ℕ → List ℕ
+short id k = field 3 (id ∷ k ∷ [])
+
 -- Helper of cases: a frame.
 unfoldable pub frame : List ℕ → List ℕ
 frame s = field 0x40 s
@@ -93,6 +97,10 @@ requestB slot limit = head slot limit ++ pair ++ lists 2 1 2
 unfoldable pub requestE : ℕ → ℕ → List ℕ
 requestE slot limit = head slot limit ++ pair ++ lists 2 1 1
 
+-- B's listing with a short field for id 2, with a slot and a T.
+unfoldable pub requestShort : ℕ → ℕ → List ℕ
+requestShort slot limit = head slot limit ++ pair ++ short 2 1
+
 -- Helper of cases: a timetable with one transition slot at most.
 unfoldable pub table : ℕ → ℕ → ℕ → List Entry → ℕ → Timetable
 table slot size owner es unlisted = record {
@@ -110,6 +118,10 @@ afterA = table 0 0 0 (entry 4 3 1 0 ∷ entry 4 2 1 0 ∷ []) 30
 -- B's: slot 6 goes to id 1, base 7, offsets 0, 2, 1.
 unfoldable pub afterB : Timetable
 afterB = table 6 1 1 (entry 4 0 1 192 ∷ entry 4 2 1 0 ∷ entry 2 1 2 128 ∷ []) 29
+
+-- B's, with id 2 left out at slot 7.
+unfoldable pub afterLeaving : Timetable
+afterLeaving = table 7 0 0 (entry 4 0 1 192 ∷ entry 4 3 1 0 ∷ []) 30
 
 -- Helper of cases: an acceptance: its tries, timetable and record.
 unfoldable pub accepted : ℕ → Timetable → List ℕ → Given
@@ -151,7 +163,7 @@ Hold (c ∷ cs) = (given (c .asked) ≡ c .says) × Hold cs
 
 -- ---- the table
 
--- Cases A to J, and the program's lines for A and B.
+-- Cases A to J, the short field, and the program's lines for A and B.
 unfoldable pub cases : List Case
 cases =
     -- A: offsets 3 and 2
@@ -167,6 +179,16 @@ cases =
     -- D: the shortfall of id 2 is 256
     ∷ case (starts afterB (requestE 8 1)) (figures (0 ∷ 64 ∷ 256 ∷ []))
     ∷ case (change afterB (requestE 8 1)) (refused 8 2 0 afterB)
+    -- D with a short field for id 2, whose R is 2 as before
+    ∷ case (change afterB (requestShort 8 1))
+    (accepted 1 (table 8 0 0 (entry 4 0 1 0 ∷ entry 4 2 1 64 ∷ entry 2 1 2 256 ∷ []) 29)
+    (0x10 ∷ 0 ∷ 1 ∷ 0 ∷ 0x11 ∷ 0 ∷ 0 ∷ 0x12 ∷ 0 ∷ 2 ∷ 0 ∷ 0 ∷ 0x12 ∷ 0 ∷ 2 ∷ 1 ∷ 2 ∷ 0x12 ∷ 0 ∷ 2 ∷ 2 ∷ 1 ∷ []))
+    -- id 2 left out after B, and asked for again with a short field: R 1
+    ∷ case (change afterB (head 7 0 ++ pair))
+    (accepted 1 afterLeaving (0x10 ∷ 0 ∷ 1 ∷ 0 ∷ 0x11 ∷ 0 ∷ 0 ∷ 0x12 ∷ 0 ∷ 2 ∷ 0 ∷ 0 ∷ 0x12 ∷ 0 ∷ 2 ∷ 1 ∷ 3 ∷ []))
+    ∷ case (change afterLeaving (requestShort 7 0))
+    (accepted 1 (table 7 0 0 (entry 4 0 1 192 ∷ entry 4 2 1 0 ∷ entry 2 1 1 0 ∷ []) 29)
+    (0x10 ∷ 0 ∷ 1 ∷ 0 ∷ 0x11 ∷ 0 ∷ 0 ∷ 0x12 ∷ 0 ∷ 2 ∷ 0 ∷ 0 ∷ 0x12 ∷ 0 ∷ 2 ∷ 1 ∷ 2 ∷ 0x12 ∷ 0 ∷ 2 ∷ 2 ∷ 1 ∷ []))
     -- F: slot 6 is too early, slot 7 is not
     ∷ case (change afterB (requestB 6 1)) (refused 6 0 0 afterB)
     ∷ case (change afterB (requestB 7 1))

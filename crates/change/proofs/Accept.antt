@@ -20,7 +20,7 @@ use Rattle.slots.proofs.Below.{true-false}
 use Rattle.slots.specs.Limits.{IDS, LONGEST, WHOLE}
 use Rattle.timetable.proofs.Ranges.{InRange}
 use Rattle.timetable.proofs.Run.{Continues}
-use Rattle.timetable.proofs.Sound.{Sound}
+use Rattle.timetable.proofs.Sound.{Ranged, Sound}
 use Rattle.timetable.specs.declared.Entry.{Entry}
 use Rattle.timetable.specs.declared.Timetable.{Timetable}
 use Rattle.timetable.specs.Timetable.{noEntry, entryOf, isListed, lists, weight, withOffset, withShortfall, startShortfall, transitionShortfall}
@@ -40,7 +40,7 @@ listed-below es len u l = at (decLt u IDS)
     at (yes k) = k
     at (no k) = absurd (true-false l (ap isListed (List·getD-eq-default es noEntry {n = u} (omega (arith, len)))))
 
-module _ (t : Timetable) (r : Request) (q : RequestRange r) (later : t .base .0 ≤ r .slot .0)
+module _ (t : Timetable) (r : Request) (ranged : Ranged (t .entries)) (q : RequestRange r) (later : t .base .0 ≤ r .slot .0)
     (fine : (i : ℕ) → i < IDS → Behind (entryOf (startEntries t (r .slot) (r .asks)) i) → ⊥)
     (k : ℕ) (kl : k ≤ r .limit) (before : PassedFirst k 0 (startPlan t r))
     (p : Plan) (here : reach (startPlan t r) k ≡ some p) (ps : List Place) (rule4 : placement (p .entries) ≡ some ps) where
@@ -49,7 +49,7 @@ module _ (t : Timetable) (r : Request) (q : RequestRange r) (later : t .base .0 
 
   fit : Fit 0 plan
   unfolding plan
-  fit = start-fit t r q fine
+  fit = start-fit t r ranged q fine
 
   -- The new timetable.
   new : Timetable

@@ -9,6 +9,7 @@ use native.Mathlib.Omega.{arith}
 use Prim.Native.Nat.{ℕ, suc, _≤_, _<_}
 use Rattle.change.proofs.Accept.{found-continues}
 use Rattle.change.proofs.Stages.{stages}
+use Rattle.change.proofs.Start.{start-fit}
 use Rattle.change.specs.Change.{numberOf, placeOf, newTimetable, timetableOf, startPlan, searchOf, answerOf, refuse, answerTo, answer, recordOf}
 use Rattle.change.specs.declared.Answer.{Answer}
 use Rattle.change.specs.Refused.{not-sound, sound, small-area, enough, bad-field, whole, too-early, in-time, overfull, fits, Behind, behind, keep-up, StagesSay}
@@ -25,8 +26,10 @@ use Rattle.records.specs.declared.Request.{Request}
 use Rattle.records.specs.Request.{readRequest}
 use Rattle.slots.specs.Limits.{AREA, IDS}
 use Rattle.timetable.proofs.Run.{Continues}
+use Rattle.timetable.proofs.Sound.{Sound, sound-from}
 use Rattle.timetable.specs.declared.Timetable.{Timetable}
 use Rattle.timetable.specs.Timetable.{entryOf}
+use Rattle.transition.proofs.Plans.{Fit}
 use Rattle.transition.proofs.Search.{PassedFirst, Ended, found, missed, exhausted, search-ends}
 use Rattle.transition.specs.declared.Plan.{Plan}
 use Rattle.transition.specs.declared.Searched.{Searched}
@@ -35,6 +38,7 @@ use Rattle.transition.specs.Transition.{longer, placed}
 
 -- A request that passed the stages before the search.
 pub record Admitted (t : Timetable) (r : Request) (area : ℕ) : Type 0 where
+  pub sound : Sound t
   pub room : AREA ≤ area
   pub range : RequestRange r
   pub later : t .base .0 ≤ r .slot .0
@@ -42,7 +46,11 @@ pub record Admitted (t : Timetable) (r : Request) (area : ℕ) : Type 0 where
 
 pub admitted : (t : Timetable) (s : List ℕ) (area : ℕ) → StagesSay t (readRequest s) area Passed → Admitted t (readRequest s .request) area
 admitted t s area (passed _ (passed _ (sound a) (passed _ (enough b) (passed _ (whole c) (in-time d)))) (passed _ (fits f) (keep-up g))) =
-    record { room = b; range = read-in-range s c; later = d; fine = g }
+    record { sound = sound-from t a; room = b; range = read-in-range s c; later = d; fine = g }
+
+-- The plan from which its lengths are searched is fit.
+pub admitted-fit : (t : Timetable) (r : Request) (area : ℕ) → Admitted t r area → Fit 0 (startPlan t r)
+admitted-fit t r area p = start-fit t r (p .sound .ranged) (p .range) (p .fine)
 
 -- The answer with a schedule: length k, and the plan placed.
 abbrev pub acceptedAs : Request → ℕ → Plan → Answer
@@ -117,6 +125,6 @@ module _ (t : Timetable) (s : List ℕ) (area : ℕ) where
     where
       at : (a : Answer) → Gets t s area a → a .number ≡ ACCEPTED → Continues t (a .timetable)
       at a (refused q e l h) z = absurd (omega arith)
-      at a (accepted e p k l b q h ps f) z = found-continues t (readRequest s .request) (p .range) (p .later) (p .fine) k l b q h ps f
+      at a (accepted e p k l b q h ps f) z = found-continues t (readRequest s .request) (p .sound .ranged) (p .range) (p .later) (p .fine) k l b q h ps f
       at a (no-slot e p k l b q h f) z = absurd (omega arith)
       at a (no-length e p b) z = absurd (omega arith)

@@ -6,8 +6,7 @@ use mathlib.Core.Path.{_≡_, ap, _∙_}
 use native.Mathlib.Decide.{decLt}
 use native.Mathlib.Omega.{arith}
 use Prim.Native.Nat.{ℕ, _<_}
-use Rattle.change.proofs.Answers.{Gets, accepted, accepted-continues, gets, no-length, no-slot, record-accepted, refused}
-use Rattle.change.proofs.Start.{start-fit}
+use Rattle.change.proofs.Answers.{Gets, accepted, admitted-fit, accepted-continues, gets, no-length, no-slot, record-accepted, refused}
 use Rattle.change.specs.Change.{answer, recordOf, startPlan}
 use Rattle.change.specs.declared.Answer.{Answer}
 use Rattle.numbers.specs.Numbers.{ACCEPTED}
@@ -40,7 +39,7 @@ module _ (t : Timetable) (s : List ℕ) (area : ℕ) where
       at : (a : Answer) → Gets t s area a → a .number ≡ ACCEPTED → length (a .timetable .owners) ≡ LONGEST
       at a (refused q e l h) z = absurd (omega arith)
       at a (accepted e p k l b q h ps f) z =
-          reach-fit k 0 (startPlan t (readRequest s .request)) q (start-fit t (readRequest s .request) (p .range) (p .fine)) (omega (arith, p .range .limit)) h .places
+          reach-fit k 0 (startPlan t (readRequest s .request)) q (admitted-fit t (readRequest s .request) area p) (omega (arith, p .range .limit)) h .places
       at a (no-slot e p k l b q h f) z = absurd (omega arith)
       at a (no-length e p b) z = absurd (omega arith)
 

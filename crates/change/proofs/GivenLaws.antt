@@ -1,5 +1,5 @@
 -- What a request gets is what the rules give: the plan that the search found was reached slot by slot, placed by rule 4, and written. Assumes nothing.
-use borrow.Author.Tests.{eq-eqb, le-ltb, lt-ltb, ne-eqb}
+use borrow.Author.Tests.{le-ltb, lt-ltb}
 use lib.ListN.{length}
 use mathlib.Core.Bool.{Bool, true, false}
 use mathlib.Core.List.{List}
@@ -9,11 +9,12 @@ use mathlib.Core.Path.{_≡_, refl, sym, ap, _∙_, subst}
 use native.Mathlib.Decide.{ℕ-discrete}
 use native.Mathlib.Omega.{arith}
 use Prim.Native.Nat.{ℕ, suc, _-_, _≤_, _<_}
-use Rattle.change.proofs.Answers.{Gets, Admitted, accepted, acceptedAs, gets, no-length, no-slot, record-none, refused, said}
-use Rattle.change.proofs.Start.{length-start, start-at, start-fit}
+use Rattle.change.proofs.Answers.{Gets, Admitted, admitted-fit, accepted, acceptedAs, gets, no-length, no-slot, record-none, refused, said}
+use Rattle.change.proofs.StageSteps.{given-bound, listed-bound, new-bound, short-bound}
+use Rattle.change.proofs.Start.{length-start, start-at}
 use Rattle.change.specs.Change.{answer, areaAfter, outcome, outcomeOf, recordOf, refuse, startPlan, written}
 use Rattle.change.specs.declared.Answer.{Answer}
-use Rattle.change.specs.Given.{AsksBound, Enters, AtRequest, ByRules, EndsAt, missed, exhausted, Wanting, Gives, early, schedule, wanting}
+use Rattle.change.specs.Given.{AsksBound, in-full, as-listed, not-listed, Enters, AtRequest, ByRules, EndsAt, missed, exhausted, Wanting, Gives, early, schedule, wanting}
 use Rattle.change.specs.Stages.{askedBound, entering, startEntries}
 use Rattle.numbers.specs.declared.Verdict.the-variants.{Passed, Refused}
 use Rattle.numbers.specs.Numbers.{SLOT-MISSED, LENGTHS-EXHAUSTED}
@@ -45,13 +46,13 @@ use Rattle.transition.specs.Transition.{longer, placed}
 -- ---- rule 1
 
 -- The bound that is asked.
-asks-bound : (a : Ask) → AsksBound (a .bound) (askedBound a)
-unfolding askedBound
-asks-bound a = at (ℕ-discrete (a .bound) 0)
+pub asks-bound : (old : Entry) (a : Ask) → AsksBound old (a .bound) (askedBound old a)
+asks-bound old a = at (ℕ-discrete (a .bound) 0) (isListed old) refl
   where
-    at : Dec (a .bound ≡ 0) → AsksBound (a .bound) (askedBound a)
-    at (yes e) = inr (e, rw (eq-eqb (a .bound) 0 e))
-    at (no e) = inl (omega arith, rw (ne-eqb (a .bound) 0 e))
+    at : Dec (a .bound ≡ 0) → (b : Bool) → isListed old ≡ b → AsksBound old (a .bound) (askedBound old a)
+    at (yes e) true l = as-listed e l (sym (listed-bound old l ∙ short-bound old a e))
+    at (yes e) false l = not-listed e l (sym (new-bound old l ∙ short-bound old a e))
+    at (no e) b l = in-full (omega arith) (sym (given-bound old a e))
 
 -- The entries at the request slot are those of rule 1.
 pub at-request : (t : Timetable) (q : Request) → AtRequest t q (startEntries t (q .slot) (q .asks))
@@ -65,7 +66,7 @@ at-request t q = record {
     enters : (i : ℕ) → 0 < askOf (q .asks) i .period → Enters t q i (entering (entryOf (t .entries) i) (q .slot .0 - t .base .0) (askOf (q .asks) i))
     enters i h =
         rw (lt-ltb 0 (askOf (q .asks) i .period) h)
-        (record { period = refl; bound = asks-bound (askOf (q .asks) i); shortfall = refl; offset = refl })
+        (record { period = refl; bound = asks-bound (entryOf (t .entries) i) (askOf (q .asks) i); shortfall = refl; offset = refl })
 
 -- ---- rules 2 to 4
 
@@ -74,7 +75,7 @@ module _ (t : Timetable) (q : Request) (area : ℕ) (pass : Admitted t q area) w
   plan = startPlan t q
 
   fit : Fit 0 plan
-  fit = start-fit t q (pass .range) (pass .fine)
+  fit = admitted-fit t q area pass
 
   module _ (n : ℕ) (small : n ≤ LONGEST) (x : Plan) (here : reach plan n ≡ some x) where
     fit-here : Fit n x

@@ -4,25 +4,23 @@ use borrow.Author.Tests.{lt-ltb}
 use lib.ListN.{getD, length}
 use lib.Seq.{ext-getD}
 use mathlib.Core.List.{List}
-use mathlib.Core.Logic.{inl, inr}
 use mathlib.Core.Path.{_≡_, refl, sym, ap, ap₂, _∙_, subst}
 use native.Mathlib.Decide.{ℕ-discrete, decLt}
 use native.Mathlib.Omega.{arith}
 use Prim.Native.Nat.{ℕ, suc, _+_, _≤_, _<_}
-use Rattle.change.proofs.Answers.{Admitted, admitted}
+use Rattle.change.proofs.Answers.{Admitted, admitted, admitted-fit}
 use Rattle.change.proofs.GivenLaws.{at-request}
 use Rattle.change.proofs.Stages.{stages}
-use Rattle.change.proofs.Start.{start-ranged}
+use Rattle.change.specs.Change.{startPlan}
 use Rattle.change.specs.declared.Outcome.{Outcome}
-use Rattle.change.specs.Given.{AsksBound, Enters, AtRequest, ByRules, Accepted, EndsAt, missed, exhausted, Wanting, Gives, early, schedule, wanting, refusedWith}
-use Rattle.change.specs.Refused.{Behind, StagesSay}
+use Rattle.change.specs.Given.{AsksBound, in-full, as-listed, not-listed, Enters, AtRequest, ByRules, Accepted, EndsAt, missed, exhausted, Wanting, Gives, early, schedule, wanting, refusedWith}
+use Rattle.change.specs.Refused.{StagesSay}
 use Rattle.change.specs.Stages.{startEntries, verdictBefore}
 use Rattle.numbers.proofs.ChainLaws.{not-passed}
 use Rattle.placement.proofs.RuleFourLaws.{rule-four-one, rule-four-placement}
 use Rattle.placement.specs.Any.{Lists, NoPlacement}
 use Rattle.placement.specs.RuleFour.{ByRuleFour}
 use Rattle.records.proofs.AnswerPlaces.{answer-one}
-use Rattle.records.proofs.ReadLaws.{RequestRange}
 use Rattle.records.proofs.ReadSteps.{as-read}
 use Rattle.records.specs.AnswerForm.{AnswerStands}
 use Rattle.records.specs.declared.ReadRequest.{ReadRequest}
@@ -32,6 +30,7 @@ use Rattle.numbers.specs.declared.Verdict.the-variants.{Passed, Refused}
 use Rattle.records.specs.declared.Request.{Request}
 use Rattle.records.specs.Reads.{RequestRead}
 use Rattle.records.specs.Request.{askOf, readRequest}
+use Rattle.slots.proofs.Below.{true-false}
 use Rattle.slots.specs.Limits.{IDS}
 use Rattle.timetable.proofs.Sound.{Ranged}
 use Rattle.timetable.specs.declared.Entry.{Entry}
@@ -44,18 +43,23 @@ use Rattle.transition.specs.RuleThree.{ByRuleThree, walkedTo}
 -- ---- rule 1
 
 -- One bound is asked.
-bound-one : (a b c : ℕ) → AsksBound a b → AsksBound a c → b ≡ c
-bound-one a b c (inl p) (inl q) = p .1 ∙ sym (q .1)
-bound-one a b c (inl p) (inr q) = absurd (omega arith)
-bound-one a b c (inr p) (inl q) = absurd (omega arith)
-bound-one a b c (inr p) (inr q) = p .1 ∙ sym (q .1)
+pub bound-one : (old : Entry) (a b c : ℕ) → AsksBound old a b → AsksBound old a c → b ≡ c
+bound-one old a b c (in-full _ p) (in-full _ q) = p ∙ sym q
+bound-one old a b c (in-full h _) (as-listed z _ _) = absurd (omega arith)
+bound-one old a b c (in-full h _) (not-listed z _ _) = absurd (omega arith)
+bound-one old a b c (as-listed z _ _) (in-full h _) = absurd (omega arith)
+bound-one old a b c (as-listed _ _ p) (as-listed _ _ q) = p ∙ sym q
+bound-one old a b c (as-listed _ l _) (not-listed _ m _) = absurd (true-false l m)
+bound-one old a b c (not-listed z _ _) (in-full h _) = absurd (omega arith)
+bound-one old a b c (not-listed _ m _) (as-listed _ l _) = absurd (true-false l m)
+bound-one old a b c (not-listed _ _ p) (not-listed _ _ q) = p ∙ sym q
 
 -- An id enters with one entry.
 enters-one : (t : Timetable) (q : Request) (i : ℕ) (e f : Entry) → Enters t q i e → Enters t q i f → e ≡ f
 enters-one t q i e f p r =
     let a = p .period ∙ sym (r .period) in
     let b = p .offset ∙ sym (r .offset) in
-    let c = bound-one (askOf (q .asks) i .bound) (e .bound) (f .bound) (p .bound) (r .bound) in
+    let c = bound-one (entryOf (t .entries) i) (askOf (q .asks) i .bound) (e .bound) (f .bound) (p .bound) (r .bound) in
     let d = p .shortfall ∙ sym (r .shortfall) in
     λ j. record { period = a j; offset = b j; bound = c j; shortfall = d j }
 
@@ -169,10 +173,11 @@ number-one limit n m es fs x y e (exhausted _) (exhausted _) = refl
 
 -- ---- the whole
 
-module _ (t : Timetable) (q : Request) (range : RequestRange q) (fine : (i : ℕ) → i < IDS → Behind (entryOf (startEntries t (q .slot) (q .asks)) i) → ⊥) where
+module _ (t : Timetable) (q : Request) (size : ℕ) (pass : Admitted t q size) where
   -- The entries at the request slot are in range.
   start-in-range : (es : List Entry) → AtRequest t q es → Ranged es
-  start-in-range es s = subst Ranged (start-one t q (startEntries t (q .slot) (q .asks)) es (at-request t q) s) (start-ranged t (q .slot) (q .asks) (range .asks) fine)
+  unfolding startPlan
+  start-in-range es s = subst Ranged (start-one t q (startEntries t (q .slot) (q .asks)) es (at-request t q) s) (admitted-fit t q size pass .ranged)
 
   -- Two acceptances are one.
   accepted-one : (before : List ℕ) (r r′ : Outcome) (out out′ : List ℕ) → Accepted t q before r out → Accepted t q before r′ out′ → (r ≡ r′) × (out ≡ out′)
@@ -253,26 +258,26 @@ module _ (t : Timetable) (s area : List ℕ) where
   gives-one r r′ out out′ (schedule a d p u v w) (early b e y q) = absurd (not-early y b a e d q p)
   gives-one r r′ out out′ (schedule a d p u v w) (schedule b e q u′ v′ w′) =
       let g = passes a d p in
-      accepted-one t (readRequest s .request) (g .range) (g .fine) area u u′ v v′
+      accepted-one t (readRequest s .request) (length area) g area u u′ v v′
       (as-read (λ y. Accepted t (y .request) area u v) s a d w)
       (as-read (λ y. Accepted t (y .request) area u′ v′) s b e w′)
   gives-one r r′ out out′ (schedule a d p u v w) (wanting b e q n k x) =
       let g = passes a d p in
       absurd
-      (not-wanting t (readRequest s .request) (g .range) (g .fine) area u v n k
+      (not-wanting t (readRequest s .request) (length area) g area u v n k
       (as-read (λ y. Accepted t (y .request) area u v) s a d w)
       (as-read (λ y. Wanting t (y .request) n k) s b e x))
   gives-one r r′ out out′ (wanting a d p n k x) (early b e y q) = absurd (not-early y b a e d q p)
   gives-one r r′ out out′ (wanting a d p n k x) (schedule b e q u v w) =
       let g = passes a d p in
       absurd
-      (not-wanting t (readRequest s .request) (g .range) (g .fine) area u v n k
+      (not-wanting t (readRequest s .request) (length area) g area u v n k
       (as-read (λ y. Accepted t (y .request) area u v) s b e w)
       (as-read (λ y. Wanting t (y .request) n k) s a d x))
   gives-one r r′ out out′ (wanting a d p n k x) (wanting b e q m l y) =
       let g = passes a d p in
       let i = as-read (λ z. Wanting t (z .request) n k) s a d x in
       let j = as-read (λ z. Wanting t (z .request) m l) s b e y in
-      let z = wanting-one t (readRequest s .request) (g .range) (g .fine) n k m l i j in
+      let z = wanting-one t (readRequest s .request) (length area) g n k m l i j in
       let w = number-one (readRequest s .request .limit) n m _ _ k l z (i .ends) (j .ends) in
       (ap₂ (λ (number n : ℕ). refusedWith t number n (suc n)) w z, refl)

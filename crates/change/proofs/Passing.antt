@@ -4,9 +4,8 @@ use mathlib.Core.List.{List}
 use mathlib.Core.Path.{_≡_, sym, ap, _∙_, subst}
 use native.Mathlib.Omega.{arith}
 use Prim.Native.Nat.{ℕ, _≤_}
-use Rattle.change.proofs.Answers.{Admitted, admitted, Gets, refused, accepted, no-slot, no-length, gets, said}
+use Rattle.change.proofs.Answers.{Admitted, admitted, admitted-fit, Gets, refused, accepted, no-slot, no-length, gets, said}
 use Rattle.change.proofs.Stages.{first-tells}
-use Rattle.change.proofs.Start.{start-fit}
 use Rattle.change.specs.Change.{startPlan, searchOf, numberOf, placeOf, timetableOf, answerOf, refuse, answerTo, answer}
 use Rattle.change.specs.Coded.{Holds, GoesInto}
 use Rattle.change.specs.declared.Answer.{Answer}
@@ -102,7 +101,7 @@ module _ (t : Timetable) (s : List ℕ) (area : ℕ) (read : ReadRequest) (q : r
 
       pub ready-plan : Ready plan
       ready-plan =
-          let fit = start-fit t (read .request) (passes .range) (passes .fine) in
+          let fit = admitted-fit t (read .request) area passes in
           subst Ready (sym p) (record { ranged = ranged-is (startPlan t (read .request) .entries) (fit .ranged); unplaced = fit .unplaced })
 
       pub holds : (x : Searched) → x ≡ searchFrom (read .request .limit) 0 plan → Holds (read .request) x

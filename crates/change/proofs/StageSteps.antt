@@ -11,7 +11,7 @@ use native.Mathlib.Decide.{decLe}
 use native.Mathlib.Numerals.{add-one}
 use native.Mathlib.Omega.{arith}
 use Prim.Native.Nat.{ℕ, suc, _+_, _*_, _≤_, _<_}
-use Rattle.change.specs.Stages.{askedBound, entering, weightSum, overfull, isBehind, behind, stageOverfull, stageBehind}
+use Rattle.change.specs.Stages.{askedBound, boundBefore, entering, weightSum, overfull, isBehind, behind, stageOverfull, stageBehind}
 use Rattle.numbers.specs.Chain.{refusedAt}
 use Rattle.numbers.specs.declared.Verdict.the-variants.{Passed, Refused}
 use Rattle.numbers.specs.Numbers.{OVERFULL, BEHIND, refusal}
@@ -31,13 +31,21 @@ use Rattle.timetable.specs.Timetable.{noEntry, entryOf, entersWith, isListed, w
 
 -- ---- one entry
 
-pub short-bound : (a : Ask) → a .bound ≡ 0 → 1 ≡ askedBound a
-unfolding askedBound
-short-bound a e = rw (eq-eqb (a .bound) 0 e)
+pub listed-bound : (old : Entry) → isListed old ≡ true → old .bound ≡ boundBefore old
+unfolding boundBefore
+listed-bound old l = rw l
 
-pub given-bound : (a : Ask) → a .bound ≢ 0 → a .bound ≡ askedBound a
+pub new-bound : (old : Entry) → isListed old ≡ false → 1 ≡ boundBefore old
+unfolding boundBefore
+new-bound old l = rw l
+
+pub short-bound : (old : Entry) (a : Ask) → a .bound ≡ 0 → boundBefore old ≡ askedBound old a
 unfolding askedBound
-given-bound a e = rw (ne-eqb (a .bound) 0 e)
+short-bound old a e = rw (eq-eqb (a .bound) 0 e)
+
+pub given-bound : (old : Entry) (a : Ask) → a .bound ≢ 0 → a .bound ≡ askedBound old a
+unfolding askedBound
+given-bound old a e = rw (ne-eqb (a .bound) 0 e)
 
 pub listed-shortfall : (old : Entry) (n s : ℕ) → isListed old ≡ true → s ≡ shortfallAfter old n → s ≡ entersWith old n
 listed-shortfall old n s l e = rw l e
@@ -49,7 +57,7 @@ pub enter-none : (old : Entry) (n : ℕ) (ask : Ask) → ask .period ≡ 0 → n
 unfolding entering
 enter-none old n ask e = rw (le-ltb 0 (ask .period) (omega (arith, e)))
 
-pub enter-asked : (old : Entry) (n : ℕ) (ask : Ask) (b s : ℕ) → ask .period ≢ 0 → b ≡ askedBound ask
+pub enter-asked : (old : Entry) (n : ℕ) (ask : Ask) (b s : ℕ) → ask .period ≢ 0 → b ≡ askedBound old ask
     → s ≡ entersWith old n
     → _≡_ {A = Entry} (record { period = ask .period; offset = 0; bound = b; shortfall = s }) (entering old n ask)
 unfolding entering

@@ -1,17 +1,18 @@
 -- The plan of length 0 of a request that passed the stages is fit: what was read is in range, and nobody is behind. Assumes nothing.
-use borrow.Author.Tests.{eq-eqb, ne-eqb, ltb-true}
-use lib.Dec.{eqb, ltb}
+use borrow.Author.Tests.{ltb-true}
+use lib.Dec.{ltb}
 use lib.ListN.{getD, length, replicate, length-replicate, getD-replicate, List·getD-eq-default}
-use mathlib.Core.Bool.{Bool, true, false, cond}
+use mathlib.Core.Bool.{Bool, true, false}
 use mathlib.Core.List.{List}
 use mathlib.Core.Logic.{inl, inr}
 use mathlib.Core.Path.{_≡_, refl, sym, ap, _∙_, subst}
 use native.Mathlib.Decide.{ℕ-discrete, decLt}
 use native.Mathlib.Omega.{arith}
 use Prim.Native.Nat.{ℕ, _+_, _-_, _*_, _≤_, _<_}
+use Rattle.change.proofs.StageSteps.{given-bound, listed-bound, new-bound, short-bound}
 use Rattle.change.specs.Change.{startPlan}
 use Rattle.change.specs.Refused.{Behind}
-use Rattle.change.specs.Stages.{askedBound, entering, startEntries}
+use Rattle.change.specs.Stages.{askedBound, boundBefore, entering, startEntries}
 use Rattle.records.proofs.ReadLaws.{AskRange, AsksRange, RequestRange}
 use Rattle.records.specs.declared.Ask.{Ask}
 use Rattle.records.specs.declared.Request.{Request}
@@ -29,7 +30,23 @@ use Rattle.transition.proofs.Plans.{Fit}
 
 -- The entry with which an asked id starts.
 abbrev pub asked : Timetable → CoreSlot → ℕ → Ask → Entry
-asked t slot i a = record { period = a .period; offset = 0; bound = askedBound a; shortfall = startShortfall t slot i }
+asked t slot i a = record { period = a .period; offset = 0; bound = askedBound (entryOf (t .entries) i) a; shortfall = startShortfall t slot i }
+
+-- A bound from 1 to 8.
+abbrev pub Bound : ℕ → Type 0
+Bound r = (0 < r) × (r ≤ LARGEST-BOUND)
+
+-- The R as before is one, and so is a bound that is asked.
+pub bound-range : (old : Entry) → (isListed old ≡ true → InRange old) → (a : Ask) → a .bound ≤ LARGEST-BOUND → Bound (askedBound old a)
+bound-range old f a h = at (ℕ-discrete (a .bound) 0)
+  where
+    before : (b : Bool) → isListed old ≡ b → Bound (boundBefore old)
+    before true l = let k = f l in subst Bound (listed-bound old l) (k .bound-low, k .bound-high)
+    before false l = subst Bound (new-bound old l) (omega arith)
+
+    at : Dec (a .bound ≡ 0) → Bound (askedBound old a)
+    at (yes e) = subst Bound (short-bound old a e) (before (isListed old) refl)
+    at (no e) = subst Bound (given-bound old a e) (omega arith)
 
 module _ (t : Timetable) (slot : CoreSlot) (asks : List Ask) where
   pub length-start : length (startEntries t slot asks) ≡ IDS
@@ -62,18 +79,10 @@ module _ (t : Timetable) (slot : CoreSlot) (asks : List Ask) where
           absurd (true-false e (sym (ap isListed z) ∙ l))
       at false e = start-at i k ∙ rw e
 
-  -- A bound that is asked is from 1 to 8.
-  bound-range : (a : Ask) → a .bound ≤ LARGEST-BOUND → (0 < askedBound a) × (askedBound a ≤ LARGEST-BOUND)
-  unfolding askedBound
-  bound-range a h = at (ℕ-discrete (a .bound) 0)
-    where
-      at : Dec (a .bound ≡ 0) → (0 < cond (eqb (a .bound) 0) 1 (a .bound)) × (cond (eqb (a .bound) 0) 1 (a .bound) ≤ LARGEST-BOUND)
-      at (yes e) = rw (eq-eqb (a .bound) 0 e) (omega arith)
-      at (no e) = rw (ne-eqb (a .bound) 0 e) (omega arith)
-
-  -- Where nobody is behind, the entries are in range.
-  pub start-ranged : AsksRange asks → ((i : ℕ) → i < IDS → Behind (entryOf (startEntries t slot asks) i) → ⊥) → Ranged (startEntries t slot asks)
-  start-ranged r n = record { listed = listed; blank = start-blank }
+  -- Where the entries before are in range and nobody is behind, the entries are in range.
+  pub start-ranged : Ranged (t .entries) → AsksRange asks → ((i : ℕ) → i < IDS → Behind (entryOf (startEntries t slot asks) i) → ⊥)
+      → Ranged (startEntries t slot asks)
+  start-ranged before r n = record { listed = listed; blank = start-blank }
     where
       es : List Entry
       es = startEntries t slot asks
@@ -87,7 +96,7 @@ module _ (t : Timetable) (slot : CoreSlot) (asks : List Ask) where
           let w = start-listed i k l in
           let a : Ask = askOf asks i in
           let p = period a (w .0) (r .each i k) in
-          let b = bound-range a (p .1) in
+          let b = bound-range (entryOf (t .entries) i) (before .listed i k) a (p .1) in
           let fine : entryOf es i .shortfall < WHOLE * entryOf es i .bound = at (decLt (entryOf es i .shortfall) (WHOLE * entryOf es i .bound)) in
           subst InRange (sym (w .1))
           (record {
@@ -111,10 +120,10 @@ zeros n k = at (decLt k n)
     at (no h) = List·getD-eq-default {A = ℕ} (replicate n 0) 0 {n = k} (omega (arith, length-replicate {A = ℕ} n 0))
 
 -- The plan of length 0 is fit.
-pub start-fit : (t : Timetable) (r : Request) → RequestRange r → ((i : ℕ) → i < IDS → Behind (entryOf (startEntries t (r .slot) (r .asks)) i) → ⊥)
-    → Fit 0 (startPlan t r)
+pub start-fit : (t : Timetable) (r : Request) → Ranged (t .entries) → RequestRange r
+    → ((i : ℕ) → i < IDS → Behind (entryOf (startEntries t (r .slot) (r .asks)) i) → ⊥) → Fit 0 (startPlan t r)
 unfolding startPlan
-start-fit t r q n = record {
+start-fit t r before q n = record {
   entries = length-start t (r .slot) (r .asks);
   places = length-replicate {A = ℕ} LONGEST 0;
   ranged = ranged;
@@ -124,7 +133,7 @@ start-fit t r q n = record {
 }
   where
     ranged : Ranged (startEntries t (r .slot) (r .asks))
-    ranged = start-ranged t (r .slot) (r .asks) (q .asks) n
+    ranged = start-ranged t (r .slot) (r .asks) before (q .asks) n
 
     at : (i : ℕ) → i < IDS → (b : Bool) → isListed (entryOf (startEntries t (r .slot) (r .asks)) i) ≡ b
         → entryOf (startEntries t (r .slot) (r .asks)) i .offset ≡ 0

@@ -1,7 +1,7 @@
 -- docs/RULES.md 4 and 7: what a request gets, said of the outcome and the area themselves, rule by rule. Nothing here searches.
 use lib.ListN.{getD, length}
 use mathlib.Core.List.{List}
-use mathlib.Core.Logic.{_⊎_}
+use mathlib.Core.Bool.{true, false}
 use mathlib.Core.Path.{_≡_}
 use Prim.Native.Nat.{ℕ, suc, _+_, _≤_, _<_}
 use Rattle.change.specs.declared.Outcome.{Outcome}
@@ -19,18 +19,22 @@ use Rattle.records.specs.Request.{askOf}
 use Rattle.slots.specs.Limits.{IDS, LONGEST}
 use Rattle.timetable.specs.declared.Entry.{Entry}
 use Rattle.timetable.specs.declared.Timetable.{Timetable}
-use Rattle.timetable.specs.Timetable.{entryOf, noEntry, startShortfall, withOffset}
+use Rattle.timetable.specs.Timetable.{entryOf, isListed, noEntry, startShortfall, withOffset}
 use Rattle.transition.specs.Reach.{AnyoneBreaks}
 use Rattle.transition.specs.RuleThree.{ByRuleThree, walkedTo}
 
--- The bound that a field asks: its R, or 1 where the field is short, which is read as 0.
-abbrev pub AsksBound : ℕ → ℕ → Type 0
-AsksBound asked bound = ((0 < asked) × (bound ≡ asked)) ⊎ ((asked ≡ 0) × (bound ≡ 1))
+-- The bound that a field asks for an id with this entry in the timetable: its R; or, where the field is short, which is read as 0, the R as before.
+pub data AsksBound (old : Entry) (asked bound : ℕ) : Type 0 where
+  in-full : 0 < asked → bound ≡ asked → AsksBound old asked bound
+  -- the R with which the timetable lists the id
+  as-listed : asked ≡ 0 → isListed old ≡ true → bound ≡ old .bound → AsksBound old asked bound
+  -- 1 for an id that it does not list
+  not-listed : asked ≡ 0 → isListed old ≡ false → bound ≡ 1 → AsksBound old asked bound
 
 -- An id that the record lists enters the change with the period and the bound that it asks, not placed yet, and with its shortfall at the request slot.
 pub record Enters (t : Timetable) (q : Request) (i : ℕ) (e : Entry) : Type 0 where
   pub period : e .period ≡ askOf (q .asks) i .period
-  pub bound : AsksBound (askOf (q .asks) i .bound) (e .bound)
+  pub bound : AsksBound (entryOf (t .entries) i) (askOf (q .asks) i .bound) (e .bound)
   pub shortfall : e .shortfall ≡ startShortfall t (q .slot) i
   pub offset : e .offset ≡ 0
 

@@ -23,15 +23,19 @@ use Rattle.timetable.specs.declared.Timetable.{Timetable}
 use Rattle.timetable.specs.Sound.{isSound}
 use Rattle.timetable.specs.Timetable.{noEntry, entryOf, isListed, weight, entersWith, each}
 
--- The bound that is asked: R, or 1 where the field was short.
-unfoldable pub askedBound : Ask → ℕ
-askedBound a = cond (eqb (a .bound) 0) 1 (a .bound)
+-- The R as before: the one with which the timetable lists the id, and 1 for an id that it does not list.
+unfoldable pub boundBefore : Entry → ℕ
+boundBefore old = cond (isListed old) (old .bound) 1
+
+-- The bound that is asked: the R of the field, or the R as before where the field was short.
+unfoldable pub askedBound : Entry → Ask → ℕ
+askedBound old a = cond (eqb (a .bound) 0) (boundBefore old) (a .bound)
 
 -- The entry with which an id enters a change n slots after the base: the new weight and R are in force from there on; one that is not asked for is forgotten.
 unfoldable pub entering : Entry → ℕ → Ask → Entry
 entering old n ask =
     cond (isAsked ask)
-    (record { period = ask .period; offset = 0; bound = askedBound ask; shortfall = entersWith old n })
+    (record { period = ask .period; offset = 0; bound = askedBound old ask; shortfall = entersWith old n })
     noEntry
 
 -- The entries at the request slot.

@@ -3,7 +3,7 @@ ghost use mathlib.Core.Bool.{true};
 ghost use mathlib.Core.Path.{_≡_};
 ghost use Prim.Native.Nat.{_≤_};
 ghost use Rattle.change.specs.Change.{startPlan};
-ghost use Rattle.change.specs.Stages.{askedBound, entering, isBehind, stageOverfull, stageBehind, stagesFirst, stagesListed};
+ghost use Rattle.change.specs.Stages.{askedBound, boundBefore, entering, isBehind, stageOverfull, stageBehind, stagesFirst, stagesListed};
 ghost use Rattle.numbers.specs.Chain.{firstOf};
 ghost use Rattle.timetable.specs.Sound.{entryInRange, isSound};
 ghost use Rattle.timetable.specs.Timetable.{isListed};
@@ -85,19 +85,29 @@ fn enter(old: Entry, elapsed: u64, ask: Ask) -> Entry
     Entry {
         period: ask.period,
         offset: 0,
-        bound: asked_bound(ask),
+        bound: asked_bound(old, ask),
         shortfall,
     }
 }
 
-// The bound that is asked: R, or 1 where the field was short.
-fn asked_bound(ask: Ask) -> u8
-    ensures { λ r. ⌜ r ≡ askedBound ask ⌝ }
+// The bound that is asked: the R of the field, or the R as before where the field was short.
+fn asked_bound(old: Entry, ask: Ask) -> u8
+    ensures { λ r. ⌜ r ≡ askedBound old ask ⌝ }
 {
     if ask.bound == 0 {
-        return 1;
+        return bound_before(old);
     }
     ask.bound
+}
+
+// The R as before: the one with which the timetable lists the id, and 1 for an id that it does not list.
+fn bound_before(old: Entry) -> u8
+    ensures { λ r. ⌜ r ≡ boundBefore old ⌝ }
+{
+    if old.is_listed() {
+        return old.bound;
+    }
+    1
 }
 
 // Stage 7: it names the id at which the running sum of the weights, ids rising, first passes 256.

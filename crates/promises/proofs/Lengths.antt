@@ -8,8 +8,7 @@ use mathlib.Core.Path.{_≡_, refl, sym, ap, _∙_, subst}
 use native.Mathlib.Decide.{decLt}
 use native.Mathlib.Omega.{arith}
 use Prim.Native.Nat.{ℕ, suc, _-_, _≤_, _<_}
-use Rattle.change.proofs.Answers.{Gets, Admitted, refused, accepted, no-slot, no-length, gets}
-use Rattle.change.proofs.Start.{start-fit}
+use Rattle.change.proofs.Answers.{admitted-fit, Gets, Admitted, refused, accepted, no-slot, no-length, gets}
 use Rattle.change.specs.Change.{answer, startPlan}
 use Rattle.change.specs.declared.Answer.{Answer}
 use Rattle.change.specs.Stages.{verdictBefore}
@@ -85,7 +84,7 @@ module _ (t : Timetable) (s : List ℕ) (area : ℕ) (pass : verdictBefore t (re
   plan = startPlan t r
 
   fit : Admitted t r area → Fit 0 plan
-  fit p = start-fit t r (p .range) (p .fine)
+  fit p = admitted-fit t r area p
 
   -- A refusal before the search is none of a request that passes.
   not-refused : (q : Refusal) → verdictBefore t (readRequest s) area ≡ Refused q → ⊥
