@@ -5,7 +5,10 @@ pub mod Answers
 pub mod Archived
 pub mod GivenLaws
 pub mod OneGiven
+pub mod Alike
 pub mod Raised
+pub mod AsBefore
+pub mod Granted
 pub mod Histories
 pub mod StageSteps
 pub mod Passing

@@ -3,18 +3,14 @@ use mathlib.Core.List.{List}
 use mathlib.Core.Logic.{_≢_}
 use mathlib.Core.Path.{_≡_, refl, ap, _∙_}
 use Prim.Native.Nat.{ℕ, _≤_}
-use Rattle.change.specs.Change.{answer, answerOf, answerTo, numberOf, placeOf, searchOf, startPlan, timetableOf}
+use Rattle.change.proofs.Alike.{alike, same-slot}
+use Rattle.change.specs.Change.{answer, answerOf, answerTo, numberOf, searchOf, startPlan}
 use Rattle.change.specs.Stages.{stageEarly, stageFields, stagesFirst, verdictBefore}
-use Rattle.numbers.specs.declared.Verdict.{Verdict}
-use Rattle.numbers.specs.declared.Verdict.the-variants.{Passed, Refused}
 use Rattle.numbers.specs.Numbers.{LENGTHS-EXHAUSTED}
 use Rattle.records.specs.declared.ReadRequest.{ReadRequest}
 use Rattle.records.specs.Request.{readRequest}
 use Rattle.timetable.specs.declared.Timetable.{Timetable}
 use Rattle.transition.proofs.Search.{search-raised}
-use Rattle.transition.specs.declared.Ending.{Ending}
-use Rattle.transition.specs.declared.Ending.the-variants.{Found, Missed, Exhausted}
-use Rattle.transition.specs.declared.Searched.{Searched}
 
 -- What was read, with another T.
 abbrev pub withT : ℕ → ReadRequest → ReadRequest
@@ -29,23 +25,12 @@ module _ (t : Timetable) (read : ReadRequest) (limit : ℕ) where
   unfolding verdictBefore stagesFirst stageFields stageEarly
   verdict-raised area = refl
 
-  -- The answer of a search asks the request for its slot alone.
-  answer-same : (x : Searched) → answerOf t (withT limit read .request) x ≡ answerOf t (read .request) x
-  unfolding answerOf timetableOf
-  answer-same x =
-      ap (λ (u : Timetable). record { number = numberOf (x .ending); place = placeOf (x .ending); tries = x .tries; timetable = u }) (at (x .ending))
-    where
-      at : (e : Ending) → timetableOf t (withT limit read .request) (x .plan) e ≡ timetableOf t (read .request) (x .plan) e
-      at (Found n) = refl
-      at (Missed n) = refl
-      at (Exhausted n) = refl
-
   -- A search that is not exhausted.
   searched : read .request .limit ≤ limit → answerOf t (read .request) (searchOf t (read .request)) .number ≢ LENGTHS-EXHAUSTED
       → answerOf t (withT limit read .request) (searchOf t (withT limit read .request)) ≡ answerOf t (read .request) (searchOf t (read .request))
   unfolding searchOf startPlan answerOf numberOf
   searched l n =
-      answer-same (searchOf t (withT limit read .request))
+      same-slot t (read .request) (withT limit read .request) refl (searchOf t (withT limit read .request))
       ∙ ap (answerOf t (read .request))
       (search-raised (read .request .limit) limit 0 (startPlan t (read .request)) l (λ m z. n (ap numberOf z)))
 
@@ -53,11 +38,7 @@ module _ (t : Timetable) (read : ReadRequest) (limit : ℕ) where
   raised : (area : ℕ) → read .request .limit ≤ limit → answerTo t read area .number ≢ LENGTHS-EXHAUSTED
       → answerTo t (withT limit read) area ≡ answerTo t read area
   unfolding answerTo
-  raised area l n = at (verdictBefore t read area) refl
-    where
-      at : (v : Verdict) → verdictBefore t read area ≡ v → answerTo t (withT limit read) area ≡ answerTo t read area
-      at (Refused x) e = rw (verdict-raised area ∙ e, answerTo, e)
-      at Passed e = rw (verdict-raised area ∙ e, answerTo, e) (searched l (λ z. n (rw (e, answerTo) z)))
+  raised area l n = alike t read (withT limit read) area (verdict-raised area) (λ e. searched l (λ z. n (rw (e, answerTo) z)))
 
 -- An answer other than 11 is the same if the request, as it is read, has a larger T.
 pub answer-raised : (t : Timetable) (s s′ : List ℕ) (area : ℕ) → readRequest s′ ≡ withT (readRequest s′ .request .limit) (readRequest s)

@@ -12,6 +12,8 @@ use native.Mathlib.Omega.{arith}
 use Prim.Native.Nat.{ℕ, suc, _+_, _-_, _*_, _≤_, _<_}
 use Rattle.change.proofs.Answers.{Gets, refused, accepted, no-slot, no-length, gets, accepted-continues, record-accepted, record-none, refusal-number}
 use Rattle.change.proofs.Archived.{accepted-read}
+use Rattle.change.proofs.AsBefore.{behind-in-full}
+use Rattle.change.proofs.Granted.{granted}
 use Rattle.change.proofs.Histories.{history-valid}
 use Rattle.change.proofs.GivenLaws.{at-request, gives, wanting-number}
 use Rattle.change.proofs.OneGiven.{gives-one}
@@ -30,7 +32,8 @@ use Rattle.placement.proofs.Complete.{placement-none, placement-some}
 use Rattle.placement.specs.Any.{CyclicPlacement}
 use Rattle.placement.specs.Placement.{Place, placement}
 use Rattle.promises.proofs.Lengths.{accepted-iff, exhausted-iff, missed-iff, passed-number, refused-iff}
-use Rattle.promises.specs.Promises.{SoundStays, Windows, OneOwner, PlacementComplete, Passes, Shortest, Tries, Stages, OneForm, KeptShortfall, Queries, Exact, Figures, LargerT, RaisingT, AnswersRead, RequestsWritten}
+use Rattle.promises.proofs.ShortFields.{full-one, full-request, same-answer, there-request}
+use Rattle.promises.specs.Promises.{SoundStays, Windows, OneOwner, PlacementComplete, Passes, Shortest, Tries, Stages, OneForm, KeptShortfall, Queries, Exact, Figures, LargerT, RaisingT, AnswersRead, RequestsWritten, AsBefore, GrantedAsThere}
 use Rattle.records.proofs.AnswerBack.{answer-back}
 use Rattle.records.proofs.AnswerForms.{answer-form, answer-owner, answer-range}
 use Rattle.records.proofs.AnswerLaws.{answer-length}
@@ -59,7 +62,7 @@ use Rattle.slots.specs.Slots.{entitlement, supply, shortfall}
 use Rattle.timetable.proofs.Listing.{empty-sound, in-force-sound, present-in-force, present-sound, since-weights}
 use Rattle.timetable.proofs.Owner.{serves-one}
 use Rattle.timetable.proofs.Run.{kept-run, present-run, slices-run}
-use Rattle.timetable.proofs.Sound.{ranged-from, sound-is}
+use Rattle.timetable.proofs.Sound.{ranged-from, sound-from, sound-is}
 use Rattle.timetable.specs.declared.Entry.{Entry}
 use Rattle.timetable.specs.declared.Timetable.{Timetable}
 use Rattle.timetable.specs.Owner.{ownerNumber}
@@ -367,4 +370,28 @@ requests-written = record {
   read = λ slot limit listing area e.
       let l = handed-lists slot limit listing (accepted-whole slot limit listing area e) in
       rw (written-back slot limit listing area e) (record { read = refl; same-slot = l .0; same-limit = l .1; lists = l .2 });
+}
+
+-- ---- 16 and 17
+
+pub as-before : AsBefore
+unfolding outcome areaAfter
+as-before = record {
+  same = λ t s s′ area f.
+      let e = same-answer t s s′ (length area) f in
+      (ap outcomeOf e, ap (λ (a : Answer). written a area) e);
+  full = λ t s z read. full-request t s (sound-from t z) read;
+  one = λ t s s′ s″ f g. full-one t s s′ s″ f g;
+  behind = λ t s area e.
+      behind-in-full t s (length area) (record { number = outcome t s area .number; place = outcome t s area .place })
+      (stages-kept .refused-only t s area (readRequest s) (request-read s) (λ z. omega (arith, e, z)) (λ z. omega (arith, e, z)) (λ z. omega (arith, e, z))) e;
+}
+
+pub granted-as-there : GrantedAsThere
+unfolding outcome
+granted-as-there = record {
+  granted = λ t s area z size asks.
+      let g = granted t s (length area) z size (asks .read) (asks .in-time) (asks .asks) in
+      record { accepted = g .0; at-once = g .1; period = λ i k. g .2 i k .0; bound = λ i k. g .2 i k .1 };
+  asked = λ t z slot limit a b c. there-request t (sound-from t z) slot limit a b c;
 }

@@ -1,3 +1,4 @@
 pub mod Lengths
+pub mod ShortFields
 pub mod Kept
 pub mod OfCode

@@ -17,9 +17,9 @@ use Rattle.change.specs.Given.{Accepted, Gives, early, schedule, wanting}
 use Rattle.change.specs.Queried.{OwnerGiven, StandingGiven}
 use Rattle.change.specs.Refused.{StagesSay}
 use Rattle.records.proofs.ReadSteps.{as-read, read-alike}
-use Rattle.promises.proofs.Kept.{answers-read, exact, kept-shortfall, one-owner, queries, raising-T, requests-written, shortest, sound-stays, stages-kept, windows}
-use Rattle.promises.specs.OfCode.{Meets, Serves, start, accepts, refuses, DemandOne, DemandTwo, DemandThree, DeficitMeans, QueriesOfCode, RaisingTOfCode, ArchiveOfCode}
-use Rattle.promises.specs.Promises.{QueriesTell, RaisedT, ReadAs, ServesOne, ShortestOf, ShortfallMeans, WindowsKept}
+use Rattle.promises.proofs.Kept.{answers-read, as-before, exact, granted-as-there, kept-shortfall, one-owner, queries, raising-T, requests-written, shortest, sound-stays, stages-kept, windows}
+use Rattle.promises.specs.OfCode.{Meets, Serves, start, accepts, refuses, DemandOne, DemandTwo, DemandThree, DeficitMeans, QueriesOfCode, RaisingTOfCode, AsBeforeOfCode, GrantedOfCode, ArchiveOfCode}
+use Rattle.promises.specs.Promises.{QueriesTell, RaisedT, ReadAs, ServesOne, ShortestOf, ShortfallMeans, StaysAsThere, WindowsKept}
 use Rattle.records.specs.AnswerRead.{noSchedule, readAnswer, scheduleOf}
 use Rattle.records.specs.AnswerReads.{AnswerRead, FieldRead}
 use Rattle.records.specs.declared.Reading.the-variants.{Whole}
@@ -108,6 +108,15 @@ pub raising-T-of-code : RaisingTOfCode
 raising-T-of-code t s s′ area r r′ out out′ m m′ larger =
     of-code t s area r out m (λ (o : Outcome) (a : List ℕ). RaisedT (readRequest s .request .limit) o a r′ out′)
     (of-code t s′ area r′ out′ m′ (RaisedT (readRequest s .request .limit) (outcome t s area) (areaAfter t s area)) (raising-T t s s′ area larger))
+
+pub as-before-of-code : AsBeforeOfCode
+as-before-of-code t s s′ area r r′ out out′ m m′ f =
+    of-code t s area r out m (λ (o : Outcome) (a : List ℕ). (r′ ≡ o) × (out′ ≡ a))
+    (of-code t s′ area r′ out′ m′ (λ (o : Outcome) (a : List ℕ). (o ≡ outcome t s area) × (a ≡ areaAfter t s area)) (as-before .same t s s′ area f))
+
+pub granted-of-code : GrantedOfCode
+granted-of-code t s area r out m z size asks =
+    of-code t s area r out m (λ (o : Outcome) (_ : List ℕ). StaysAsThere t o) (granted-as-there .granted t s area z size asks)
 
 pub deficit-means : DeficitMeans
 deficit-means = of-controller ShortfallMeans kept-shortfall

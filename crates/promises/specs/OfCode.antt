@@ -1,4 +1,4 @@
--- docs/RULES.md 1.4 to 1.9, demands 1 to 3 and what lab, service screen, desk and lab network read, of the code: of whatever meets the contract of `change`, of a query, of the reader of answers or the writer of requests, and of a controller that is made of such calls.
+-- docs/RULES.md 1.4 to 1.11, demands 1 to 3 and what lab, service screen, desk, lab network and method software read, of the code: of whatever meets the contract of `change`, of a query, of the reader of answers or the writer of requests, and of a controller that is made of such calls.
 use lib.ListN.{getD, length, take}
 use mathlib.Core.Bool.{true}
 use mathlib.Core.List.{List, [], _∷_}
@@ -13,7 +13,7 @@ use Rattle.change.specs.Given.{Accepted, Gives, refusedWith}
 use Rattle.change.specs.Queried.{OwnerGiven, StandingGiven, ownerAnswer, standingAnswer}
 use Rattle.change.specs.Queries.{ownerQuery, standingQuery}
 use Rattle.change.specs.Refused.{StagesSay}
-use Rattle.promises.specs.Promises.{LargerT, Passes, RaisedT, ReadAs, ServesOne, ShortestOf, ShortfallMeans, WindowsKept}
+use Rattle.promises.specs.Promises.{AsksAsThere, InFull, LargerT, Passes, RaisedT, ReadAs, ServesOne, ShortestOf, ShortfallMeans, StaysAsThere, WindowsKept}
 use Rattle.records.specs.AnswerRead.{fieldAt, noSchedule, readAnswer, readFrom, scheduleOf, toldOwner}
 use Rattle.records.specs.AnswerReads.{AnswerRead, FieldRead}
 use Rattle.records.specs.declared.AnswerStep.{AnswerStep}
@@ -30,7 +30,7 @@ use Rattle.records.specs.Writes.{RequestWritten}
 use Rattle.records.specs.Written.{areaWritten, writeRequest}
 use Rattle.slots.specs.Clocks.{coreSlot, sliceCount}
 use Rattle.slots.specs.declared.CoreSlot.{CoreSlot}
-use Rattle.slots.specs.Limits.{IDS, LAST-SLOT}
+use Rattle.slots.specs.Limits.{AREA, IDS, LAST-SLOT}
 use Rattle.slots.specs.Slots.{shortfall, supply}
 use Rattle.timetable.specs.declared.Timetable.{Timetable}
 use Rattle.timetable.specs.History.{History, present, runOf}
@@ -86,6 +86,16 @@ pub record DemandThree : Type 0 where
 abbrev pub RaisingTOfCode : Type 0
 RaisingTOfCode = (t : Timetable) (s s′ area : List ℕ) (r r′ : Outcome) (out out′ : List ℕ) → Meets t s area r out → Meets t s′ area r′ out′
     → LargerT s s′ → RaisedT (readRequest s .request .limit) r out r′ out′
+
+-- What the method software gets for short fields: what it gets for the request in full, of any two outcomes that meet the contract.
+abbrev pub AsBeforeOfCode : Type 0
+AsBeforeOfCode = (t : Timetable) (s s′ area : List ℕ) (r r′ : Outcome) (out out′ : List ℕ) → Meets t s area r out → Meets t s′ area r′ out′
+    → InFull t s s′ → (r′ ≡ r) × (out′ ≡ out)
+
+-- And for what is there, all by short fields: that it stays.
+abbrev pub GrantedOfCode : Type 0
+GrantedOfCode = (t : Timetable) (s area : List ℕ) (r : Outcome) (out : List ℕ) → Meets t s area r out → isSound t ≡ true → AREA ≤ length area
+    → AsksAsThere t s → StaysAsThere t r
 
 -- What the lab reads: the kept shortfall is the largest excess of entitlement over supply, across the changes of a controller.
 abbrev pub DeficitMeans : Type 0

@@ -1,4 +1,4 @@
--- docs/RULES.md 1.4 to 1.9: the promises, as statements about the definitions. Each speaks of the slots and of the rules, never of how something is
+-- docs/RULES.md 1.4 to 1.11: the promises, as statements about the definitions. Each speaks of the slots and of the rules, never of how something is
 -- computed; proofs/Kept.antt proves each under its name. Two wrong programs that a promise shuts out stand under it.
 use lib.ListN.{getD, length, take}
 use mathlib.Core.Bool.{true}
@@ -12,7 +12,7 @@ use Rattle.change.specs.Controller.{Sent, historyOf}
 use Rattle.change.specs.declared.Outcome.{Outcome}
 use Rattle.change.specs.declared.OwnerAnswer.{OwnerAnswer}
 use Rattle.change.specs.declared.StandingAnswer.{StandingAnswer}
-use Rattle.change.specs.Given.{AtRequest, Gives, refusedWith}
+use Rattle.change.specs.Given.{AsksBound, AtRequest, Gives, refusedWith}
 use Rattle.change.specs.Queried.{OwnerGiven, StandingGiven}
 use Rattle.change.specs.Queries.{ownerQuery, standingQuery}
 use Rattle.change.specs.Refused.{StagesSay}
@@ -22,6 +22,7 @@ use Rattle.placement.specs.Placement.{Place, placement, settle}
 use Rattle.records.specs.AnswerRead.{fieldAt, noSchedule, readAnswer, readFrom, scheduleOf, scheduleRecord, toldOwner}
 use Rattle.records.specs.AnswerReads.{AnswerRead, FieldRead, ScheduleRange}
 use Rattle.records.specs.declared.AnswerStep.{AnswerStep}
+use Rattle.records.specs.declared.Ask.{Ask}
 use Rattle.records.specs.declared.ReadAnswer.{ReadAnswer}
 use Rattle.records.specs.declared.Reading.the-variants.{Whole, Refused as unread}
 use Rattle.records.specs.declared.ReadRequest.{ReadRequest}
@@ -32,7 +33,7 @@ use Rattle.records.specs.declared.Schedule.{Schedule}
 use Rattle.records.specs.declared.Writing.{Writing}
 use Rattle.numbers.specs.Numbers.{ACCEPTED, NOT-SOUND, SMALL-AREA, BAD-FIELD, OUT-OF-RANGE, NOT-RISING, TOO-EARLY, OVERFULL, BEHIND, SLOT-MISSED, NOT-LISTED, LENGTHS-EXHAUSTED}
 use Rattle.records.specs.Reads.{Bytes, RequestRange, RefusalRange, RequestRead}
-use Rattle.records.specs.Request.{readRequest}
+use Rattle.records.specs.Request.{askOf, readRequest}
 use Rattle.records.specs.Writes.{ListsEntries, RequestWritten}
 use Rattle.records.specs.Written.{areaWritten, requestRecord, writeRequest}
 use Rattle.slots.specs.Below.{count}
@@ -254,3 +255,49 @@ pub record RequestsWritten : Type 0 where
       → RequestWritten slot limit listing area r′ out′ → (r ≡ r′) × (out ≡ out′)
   pub read : (slot : CoreSlot) (limit : ℕ) (listing area : List ℕ) → writeRequest slot limit listing (length area) .number ≡ ACCEPTED
       → ReadAs slot limit listing (readRequest (take (writeRequest slot limit listing (length area) .written) (areaWritten slot limit listing area)))
+
+-- What a request asks for an id, `ask`, and the same in full, for an id with this entry in the timetable: the same period, and, where it asks for the id,
+-- an R that is given, the one that is asked.
+pub record AskInFull (old : Entry) (ask full : Ask) : Type 0 where
+  pub period : full .period ≡ ask .period
+  pub given : 0 < ask .period → 0 < full .bound
+  pub bound : 0 < ask .period → AsksBound old (ask .bound) (full .bound)
+
+-- The request s, and s′, the same request in full for a timetable: both are read, they have the same slot and T, and what s asks for an id s′ asks in full.
+pub record InFull (t : Timetable) (s s′ : List ℕ) : Type 0 where
+  pub read : readRequest s .reading ≡ Whole
+  pub read′ : readRequest s′ .reading ≡ Whole
+  pub slot : readRequest s′ .request .slot ≡ readRequest s .request .slot
+  pub limit : readRequest s′ .request .limit ≡ readRequest s .request .limit
+  pub asks : (i : ℕ) → i < IDS → AskInFull (entryOf (t .entries) i) (askOf (readRequest s .request .asks) i) (askOf (readRequest s′ .request .asks) i)
+
+-- 16. As before. For every timetable and area a request with short fields gets exactly the outcome of the request in full, and leaves exactly its area; and
+-- for a sound timetable every request that is read has a request in full, and one only. And 8 names no id with a short field.
+-- (Shuts out: R 1 kept for a listed id; the R of an id that left; the R of another id.)
+pub record AsBefore : Type 0 where
+  pub same : (t : Timetable) (s s′ area : List ℕ) → InFull t s s′ → (outcome t s′ area ≡ outcome t s area) × (areaAfter t s′ area ≡ areaAfter t s area)
+  pub full : (t : Timetable) (s : List ℕ) → isSound t ≡ true → readRequest s .reading ≡ Whole → (s′ : List ℕ) × InFull t s s′
+  pub one : (t : Timetable) (s s′ s″ : List ℕ) → InFull t s s′ → InFull t s s″ → readRequest s″ ≡ readRequest s′
+  pub behind : (t : Timetable) (s area : List ℕ) → outcome t s area .number ≡ BEHIND → 0 < askOf (readRequest s .request .asks) (outcome t s area .place) .bound
+
+-- The request s asks a timetable for what is there: it is read, its slot is not before the base, and it lists exactly the present ids, each with its
+-- present period and by a short field.
+pub record AsksAsThere (t : Timetable) (s : List ℕ) : Type 0 where
+  pub read : readRequest s .reading ≡ Whole
+  pub in-time : t .base .0 ≤ readRequest s .request .slot .0
+  pub asks : (i : ℕ) → i < IDS → askOf (readRequest s .request .asks) i ≡ record { period = entryOf (t .entries) i .period; bound = 0 }
+
+-- An outcome that is accepted with length 0, and in which each id keeps its period and its R.
+pub record StaysAsThere (t : Timetable) (r : Outcome) : Type 0 where
+  pub accepted : r .number ≡ ACCEPTED
+  pub at-once : r .timetable .length ≡ 0
+  pub period : (i : ℕ) → i < IDS → entryOf (r .timetable .entries) i .period ≡ entryOf (t .entries) i .period
+  pub bound : (i : ℕ) → i < IDS → entryOf (r .timetable .entries) i .bound ≡ entryOf (t .entries) i .bound
+
+-- 17. What is there is granted: a sound timetable that is asked for what is there, with an area that is large enough, stays as there; and it can be so asked
+-- at every slot from the base on, with every T.
+-- (Shuts out: R 1 kept for a listed id; the smallest free offset taken; weights that sum to 256 refused.)
+pub record GrantedAsThere : Type 0 where
+  pub granted : (t : Timetable) (s area : List ℕ) → isSound t ≡ true → AREA ≤ length area → AsksAsThere t s → StaysAsThere t (outcome t s area)
+  pub asked : (t : Timetable) → isSound t ≡ true → (slot limit : ℕ) → t .base .0 ≤ slot → slot ≤ LAST-SLOT → limit ≤ LONGEST
+      → (s : List ℕ) × AsksAsThere t s × (readRequest s .request .slot .0 ≡ slot) × (readRequest s .request .limit ≡ limit)

@@ -6,6 +6,7 @@ pub mod FieldBytes
 pub mod OneForm
 pub mod FieldStands
 pub mod RoundTrip
+pub mod AnyRequest
 pub mod NumberLaws
 pub mod NextStep
 pub mod SetsLaws

@@ -12,3 +12,5 @@ pub mod SoundLaws
 pub mod Marks
 pub mod TakenLaws
 pub mod OwnerLaws
+pub mod Onward
+pub mod Shares
