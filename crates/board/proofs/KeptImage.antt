@@ -11,8 +11,7 @@ use Rattle.board.proofs.BoardLaws.{after-accepted, after-refused, answe
 use Rattle.board.proofs.ReadBack.{read-back}
 use Rattle.board.proofs.StoreLaws.{image-length}
 use Rattle.board.specs.Image.{Fits, imageAfter, imageAnswer, imageOf, keptImage}
-use Rattle.change.proofs.Answers.{accepted-continues}
-use Rattle.change.proofs.Archived.{accepted-owners}
+use Rattle.change.proofs.Answers.{accepted-continues, accepted-owners}
 use Rattle.change.proofs.Histories.{sent-accepted, sent-refused}
 use Rattle.change.specs.Change.{answer}
 use Rattle.change.specs.declared.Answer.{Answer}

@@ -1,5 +1,6 @@
 -- What a request gets, whole: a refusal before the search, an acceptance at the length found, or the refusal for want of a schedule. Assumes nothing.
 use borrow.Author.Tests.{eq-eqb, ne-eqb}
+use lib.ListN.{length}
 use mathlib.Core.List.{List, []}
 use mathlib.Core.Logic.{_≢_}
 use mathlib.Core.Option.{none, some}
@@ -24,12 +25,13 @@ use Rattle.records.proofs.ReadLaws.{RequestRange, read-in-range, refused-in-ran
 use Rattle.records.specs.Answer.{answerRecord}
 use Rattle.records.specs.declared.Request.{Request}
 use Rattle.records.specs.Request.{readRequest}
-use Rattle.slots.specs.Limits.{AREA, IDS}
+use Rattle.slots.specs.Limits.{AREA, IDS, LONGEST}
 use Rattle.timetable.proofs.Run.{Continues}
 use Rattle.timetable.proofs.Sound.{Sound, sound-from}
 use Rattle.timetable.specs.declared.Timetable.{Timetable}
 use Rattle.timetable.specs.Timetable.{entryOf}
 use Rattle.transition.proofs.Plans.{Fit}
+use Rattle.transition.proofs.Reach.{reach-fit}
 use Rattle.transition.proofs.Search.{PassedFirst, Ended, found, missed, exhausted, search-ends}
 use Rattle.transition.specs.declared.Plan.{Plan}
 use Rattle.transition.specs.declared.Searched.{Searched}
@@ -126,5 +128,17 @@ module _ (t : Timetable) (s : List ℕ) (area : ℕ) where
       at : (a : Answer) → Gets t s area a → a .number ≡ ACCEPTED → Continues t (a .timetable)
       at a (refused q e l h) z = absurd (omega arith)
       at a (accepted e p k l b q h ps f) z = found-continues t (readRequest s .request) (p .sound .ranged) (p .range) (p .later) (p .fine) k l b q h ps f
+      at a (no-slot e p k l b q h f) z = absurd (omega arith)
+      at a (no-length e p b) z = absurd (omega arith)
+
+  -- The timetable of an accepted request has 64 owners.
+  pub accepted-owners : answer t s area .number ≡ ACCEPTED → length (answer t s area .timetable .owners) ≡ LONGEST
+  unfolding placed
+  accepted-owners = at (answer t s area) gets
+    where
+      at : (a : Answer) → Gets t s area a → a .number ≡ ACCEPTED → length (a .timetable .owners) ≡ LONGEST
+      at a (refused q e l h) z = absurd (omega arith)
+      at a (accepted e p k l b q h ps f) z =
+          reach-fit k 0 (startPlan t (readRequest s .request)) q (admitted-fit t (readRequest s .request) area p) (omega (arith, p .range .limit)) h .places
       at a (no-slot e p k l b q h f) z = absurd (omega arith)
       at a (no-length e p b) z = absurd (omega arith)

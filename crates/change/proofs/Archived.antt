@@ -6,21 +6,17 @@ use mathlib.Core.Path.{_≡_, ap, _∙_}
 use native.Mathlib.Decide.{decLt}
 use native.Mathlib.Omega.{arith}
 use Prim.Native.Nat.{ℕ, _<_}
-use Rattle.change.proofs.Answers.{Gets, accepted, admitted-fit, accepted-continues, gets, no-length, no-slot, record-accepted, refused}
-use Rattle.change.specs.Change.{answer, recordOf, startPlan}
-use Rattle.change.specs.declared.Answer.{Answer}
+use Rattle.change.proofs.Answers.{accepted-continues, accepted-owners, record-accepted}
+use Rattle.change.specs.Change.{answer, recordOf}
 use Rattle.numbers.specs.Numbers.{ACCEPTED}
 use Rattle.records.proofs.AnswerBack.{answer-back, entries-record, placed-blank}
 use Rattle.records.specs.AnswerRead.{entryOffset, readAnswer, scheduleOf, wholeAnswer}
 use Rattle.records.specs.AnswerReads.{ScheduleRange}
-use Rattle.records.specs.Request.{readRequest}
 use Rattle.slots.proofs.Below.{true-false}
-use Rattle.slots.specs.Limits.{IDS, LONGEST}
+use Rattle.slots.specs.Limits.{IDS}
 use Rattle.timetable.specs.declared.Entry.{Entry}
 use Rattle.timetable.specs.declared.Timetable.{Timetable}
 use Rattle.timetable.specs.Timetable.{entryOf, isListed, noEntry}
-use Rattle.transition.proofs.Reach.{reach-fit}
-use Rattle.transition.specs.Transition.{placed}
 
 -- A listed id is below 32.
 listed-id : (es : List Entry) (i : ℕ) → length es ≡ IDS → isListed (entryOf es i) ≡ true → i < IDS
@@ -30,38 +26,25 @@ listed-id es i c l = by (decLt i IDS)
     by (yes h) = h
     by (no h) = absurd (true-false l (rw (List·getD-eq-default es noEntry {n = i} (omega (arith, c)))))
 
-module _ (t : Timetable) (s : List ℕ) (area : ℕ) where
-  -- The timetable of an accepted request has 64 owners.
-  pub accepted-owners : answer t s area .number ≡ ACCEPTED → length (answer t s area .timetable .owners) ≡ LONGEST
-  unfolding placed
-  accepted-owners = at (answer t s area) (gets t s area)
-    where
-      at : (a : Answer) → Gets t s area a → a .number ≡ ACCEPTED → length (a .timetable .owners) ≡ LONGEST
-      at a (refused q e l h) z = absurd (omega arith)
-      at a (accepted e p k l b q h ps f) z =
-          reach-fit k 0 (startPlan t (readRequest s .request)) q (admitted-fit t (readRequest s .request) area p) (omega (arith, p .range .limit)) h .places
-      at a (no-slot e p k l b q h f) z = absurd (omega arith)
-      at a (no-length e p b) z = absurd (omega arith)
+module _ (t : Timetable) (s : List ℕ) (area : ℕ) (e : answer t s area .number ≡ ACCEPTED) where
+  -- The schedule of an accepted request's timetable is in range.
+  accepted-range : ScheduleRange (scheduleOf (answer t s area .timetable))
+  accepted-range =
+      let c = accepted-continues t s area e in
+      let sound = c .sound in
+      let es = answer t s area .timetable .entries in
+      record {
+        short = sound .size;
+        slots = accepted-owners t s area e;
+        owner = λ k h. listed-id es _ (c .shape) (sound .owners k h);
+        unused = λ k h b. sound .unused k b h;
+        ids = length-map es entryOffset ∙ c .shape;
+        unlisted = λ i h. placed-blank es i;
+      }
 
-  module _ (e : answer t s area .number ≡ ACCEPTED) where
-    -- Its schedule is in range.
-    accepted-range : ScheduleRange (scheduleOf (answer t s area .timetable))
-    accepted-range =
-        let c = accepted-continues t s area e in
-        let sound = c .sound in
-        let es = answer t s area .timetable .entries in
-        record {
-          short = sound .size;
-          slots = accepted-owners e;
-          owner = λ k h. listed-id es _ (c .shape) (sound .owners k h);
-          unused = λ k h b. sound .unused k b h;
-          ids = length-map es entryOffset ∙ c .shape;
-          unlisted = λ i h. placed-blank es i;
-        }
-
-    -- Reading its record gives that schedule.
-    pub accepted-read : readAnswer (recordOf (answer t s area)) ≡ wholeAnswer (scheduleOf (answer t s area .timetable))
-    accepted-read =
-        let n = answer t s area .timetable in
-        ap readAnswer (record-accepted (answer t s area) e ∙ entries-record (n .length) (n .owners) (n .entries))
-        ∙ answer-back (scheduleOf n) accepted-range
+  -- Reading the answer's record gives that schedule.
+  pub accepted-read : readAnswer (recordOf (answer t s area)) ≡ wholeAnswer (scheduleOf (answer t s area .timetable))
+  accepted-read =
+      let n = answer t s area .timetable in
+      ap readAnswer (record-accepted (answer t s area) e ∙ entries-record (n .length) (n .owners) (n .entries))
+      ∙ answer-back (scheduleOf n) accepted-range
