@@ -5,20 +5,20 @@ use lib.Seq.{sets}
 use mathlib.Core.List.{List}
 use mathlib.Core.Path.{_≡_, refl, sym, ap, _∙_}
 use Prim.Native.Nat.{ℕ, _≤_, _<_}
+use Rattle.archive.proofs.AnswerForms.{answer-range}
+use Rattle.archive.specs.AnswerRead.{readAnswer}
+use Rattle.archive.specs.declared.AnswerField.{AnswerField}
+use Rattle.archive.specs.declared.AnswerField.the-variants.{Length, Owners, Offset, End, Refused as field-refused}
+use Rattle.archive.specs.declared.AnswerStep.{AnswerStep}
+use Rattle.archive.specs.declared.ReadAnswer.{ReadAnswer}
+use Rattle.archive.specs.declared.Writing.{Writing}
+use Rattle.archive.specs.RequestWrite.{areaWritten, writeRequest}
 use Rattle.board.proofs.ScheduleLaws.{schedule-stands}
 use Rattle.board.specs.Archive.{AnswerTold, FieldTold, RequestTold, SCHEDULE, ScheduleStands, areaRead, fieldFirst, fieldNumber, fieldPlace, fieldSecond, fieldTag, readNumber, readPlace, scheduleBytes}
 use Rattle.numbers.specs.declared.Refusal.{Refusal}
 use Rattle.numbers.specs.Numbers.{ACCEPTED, SMALL-AREA}
-use Rattle.records.proofs.AnswerForms.{answer-range}
-use Rattle.records.specs.AnswerRead.{readAnswer}
-use Rattle.records.specs.declared.AnswerField.{AnswerField}
-use Rattle.records.specs.declared.AnswerField.the-variants.{Length, Owners, Offset, End, Refused as field-refused}
-use Rattle.records.specs.declared.AnswerStep.{AnswerStep}
-use Rattle.records.specs.declared.ReadAnswer.{ReadAnswer}
 use Rattle.records.specs.declared.Reading.{Reading}
 use Rattle.records.specs.declared.Reading.the-variants.{Whole, Refused}
-use Rattle.records.specs.declared.Writing.{Writing}
-use Rattle.records.specs.Written.{areaWritten, writeRequest}
 use Rattle.slots.specs.Clocks.{coreSlot}
 
 -- An answer as it was read.

@@ -2,8 +2,8 @@
 use mathlib.Core.List.{List}
 use mathlib.Core.Path.{_≡_, sym, _∙_}
 use Prim.Native.Nat.{ℕ}
+use Rattle.archive.specs.declared.AnswerStep.{AnswerStep}
 use Rattle.board.specs.Archive.{AnswerTold, FieldTold, RequestTold}
-use Rattle.records.specs.declared.AnswerStep.{AnswerStep}
 
 -- Reading an answer: number, place and the area.
 pub answer-told-unique : (answer area : List ℕ) (n p n′ p′ : ℕ) (a a′ : List ℕ) → AnswerTold answer area n p a → AnswerTold answer area n′ p′ a′

@@ -5,11 +5,11 @@ use mathlib.Core.List.{List, [], _∷_, _++_, append-assoc, map}
 use mathlib.Core.Path.{_≡_, refl, sym, ap, _∙_}
 use native.Mathlib.Omega.{arith}
 use Prim.Native.Nat.{ℕ, _+_, _≤_, _<_}
+use Rattle.archive.specs.AnswerRead.{noOffset, idOffset}
+use Rattle.archive.specs.declared.IdOffset.{IdOffset}
+use Rattle.archive.specs.declared.Schedule.{Schedule}
 use Rattle.board.specs.Archive.{LISTED-AT, OFFSETS-AT, SCHEDULE, ScheduleStands, listedByte, offsetByte, scheduleBytes}
 use Rattle.records.proofs.SetsLaws.{sets-front, sets-next, sets-rest, sets-then}
-use Rattle.records.specs.AnswerRead.{noOffset, idOffset}
-use Rattle.records.specs.declared.IdOffset.{IdOffset}
-use Rattle.records.specs.declared.Schedule.{Schedule}
 use Rattle.slots.specs.Limits.{IDS, LONGEST}
 
 module _ (f : IdOffset → ℕ) (none : f noOffset ≡ 0) (l : List ℕ) (at : ℕ) (ps : List IdOffset) where

@@ -6,15 +6,15 @@ use mathlib.Core.Bool.{cond}
 use mathlib.Core.List.{List, [], _∷_, _++_, map}
 use mathlib.Core.Path.{_≡_}
 use Prim.Native.Nat.{ℕ, _+_, _≤_, _<_}
+use Rattle.archive.specs.AnswerRead.{idOffset, readAnswer}
+use Rattle.archive.specs.declared.AnswerField.{AnswerField}
+use Rattle.archive.specs.declared.AnswerField.the-variants.{Length, Owners, Offset, End, Refused as field-refused}
+use Rattle.archive.specs.declared.AnswerStep.{AnswerStep}
+use Rattle.archive.specs.declared.IdOffset.{IdOffset}
+use Rattle.archive.specs.declared.Schedule.{Schedule}
+use Rattle.archive.specs.RequestWrite.{areaWritten, writeRequest}
 use Rattle.numbers.specs.Numbers.{ACCEPTED, SMALL-AREA}
-use Rattle.records.specs.AnswerRead.{idOffset, readAnswer}
-use Rattle.records.specs.declared.AnswerField.{AnswerField}
-use Rattle.records.specs.declared.AnswerField.the-variants.{Length, Owners, Offset, End, Refused as field-refused}
-use Rattle.records.specs.declared.AnswerStep.{AnswerStep}
-use Rattle.records.specs.declared.IdOffset.{IdOffset}
 use Rattle.records.specs.declared.Reading.the-variants.{Whole, Refused}
-use Rattle.records.specs.declared.Schedule.{Schedule}
-use Rattle.records.specs.Written.{areaWritten, writeRequest}
 use Rattle.slots.specs.Clocks.{coreSlot}
 use Rattle.slots.specs.Limits.{IDS, LONGEST}
 

@@ -1,10 +1,10 @@
 // The library as a C program on the board calls it. A timetable is an image of 273 bytes, and each function returns a number of docs/RULES.md 7.1.
 ghost use mathlib.Core.Path.{_≡_};
+ghost use Rattle.archive.specs.AnswerRead.{fieldAt};
 ghost use Rattle.board.specs.Archive.{AnswerTold, FieldTold, RequestTold};
 ghost use Rattle.board.specs.Image.{Changed, OwnerTold, StandingTold, emptyImage, emptyNumber, imageOwner, imageStanding};
-ghost use Rattle.records.specs.AnswerRead.{fieldAt};
+use archive::AnswerField;
 use numbers::Refusal;
-use records::AnswerField;
 use records::Reading;
 use records::write::LENGTH_TAG;
 use records::write::OFFSET_TAG;
@@ -109,7 +109,7 @@ pub extern "C" fn tarnflaw_standing(
 pub extern "C" fn tarnflaw_read_answer(answer: &[u8], area: &mut [u8], place: &mut usize) -> u8
     ensures { λ r. ⌜ AnswerTold (now (answer .entry)) (now (area .entry)) r (now (place .exit)) (now (area .exit)) ⌝ }
 {
-    let read = records::reader::read_answer(answer);
+    let read = archive::reader::read_answer(answer);
     let reading = read.reading;
     match reading {
         Reading::Refused(refusal) => {
@@ -140,7 +140,7 @@ pub extern "C" fn tarnflaw_write_request(
 ) -> u8
     ensures { λ r. ⌜ RequestTold slot limit (now (listing .entry)) (now (area .entry)) r (now (place .exit)) (now (written .exit)) (now (area .exit)) ⌝ }
 {
-    let w = records::writer::write_request(CoreSlot(slot), limit, listing, area);
+    let w = archive::writer::write_request(CoreSlot(slot), limit, listing, area);
     *place = w.place;
     *written = w.written;
     w.number
@@ -158,7 +158,7 @@ pub extern "C" fn tarnflaw_answer_field(
 ) -> u8
     ensures { λ r. ⌜ FieldTold (fieldAt (now (answer .entry)) (now (at .entry))) r (now (place .exit)) (now (tag .exit)) (now (first .exit)) (now (second .exit)) (now (at .exit)) ⌝ }
 {
-    let step = records::answer::field_at(answer, *at);
+    let step = archive::answer::field_at(answer, *at);
     *at = step.next;
     *place = 0;
     *tag = 0;

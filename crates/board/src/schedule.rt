@@ -5,8 +5,8 @@ ghost use mathlib.Core.List.{map};
 ghost use mathlib.Core.Path.{_≡_};
 ghost use Prim.Native.Nat.{_≤_};
 ghost use Rattle.board.specs.Archive.{LISTED-AT, OFFSETS-AT, SCHEDULE, listedByte, offsetByte, scheduleBytes};
-use records::IdOffset;
-use records::Schedule;
+use archive::IdOffset;
+use archive::Schedule;
 use records::write::put_owners;
 use timetable::Timetable;
 

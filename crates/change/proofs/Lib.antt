@@ -2,7 +2,6 @@ pub mod Stages
 pub mod Start
 pub mod Accept
 pub mod Answers
-pub mod Archived
 pub mod GivenLaws
 pub mod OneGiven
 pub mod Alike

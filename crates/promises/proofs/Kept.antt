@@ -10,12 +10,17 @@ use mathlib.Core.Path.{_≡_, refl, sym, ap, ap₂, _∙_, subst}
 use native.Mathlib.Decide.{decLt}
 use native.Mathlib.Omega.{arith}
 use Prim.Native.Nat.{ℕ, suc, _+_, _-_, _*_, _≤_, _<_}
+use Rattle.archive.proofs.AnswerBack.{answer-back}
+use Rattle.archive.proofs.AnswerForms.{answer-form, answer-owner, answer-range}
+use Rattle.archive.proofs.AnswerSteps.{answer-damaged, answer-is, answer-read, field-is, field-read}
+use Rattle.archive.proofs.RequestPlaces.{request-written, request-written-one}
+use Rattle.archive.proofs.WrittenBack.{accepted-whole, handed-lists, written-back}
+use Rattle.archive.specs.AnswerRead.{readAnswer}
 use Rattle.change.proofs.Answers.{Gets, refused, accepted, no-slot, no-length, gets, accepted-continues, record-accepted, record-none, refusal-number}
-use Rattle.change.proofs.Archived.{accepted-read}
 use Rattle.change.proofs.AsBefore.{behind-in-full}
+use Rattle.change.proofs.GivenLaws.{at-request, gives, wanting-number}
 use Rattle.change.proofs.Granted.{granted}
 use Rattle.change.proofs.Histories.{history-valid}
-use Rattle.change.proofs.GivenLaws.{at-request, gives, wanting-number}
 use Rattle.change.proofs.OneGiven.{gives-one}
 use Rattle.change.proofs.QueriedLaws.{owner-given, owner-only, standing-given, standing-only}
 use Rattle.change.proofs.Raised.{answer-raised, verdict-raised, withT}
@@ -28,29 +33,24 @@ use Rattle.change.specs.Given.{Gives, early, refusedWith, schedule, wanting}
 use Rattle.change.specs.Queries.{ownerQuery, standing, standingQuery}
 use Rattle.change.specs.Refused.{StagesSay}
 use Rattle.change.specs.Stages.{verdictBefore}
-use Rattle.placement.proofs.Complete.{placement-none, placement-some}
-use Rattle.placement.specs.Any.{CyclicPlacement}
-use Rattle.placement.specs.Placement.{Place, placement}
-use Rattle.promises.proofs.Lengths.{accepted-iff, exhausted-iff, missed-iff, passed-number, refused-iff}
-use Rattle.promises.proofs.ShortFields.{full-one, full-request, same-answer, there-request}
-use Rattle.promises.specs.Promises.{SoundStays, Windows, OneOwner, PlacementComplete, Passes, Shortest, Tries, Stages, OneForm, KeptShortfall, Queries, Exact, Figures, LargerT, RaisingT, AnswersRead, RequestsWritten, AsBefore, GrantedAsThere}
-use Rattle.records.proofs.AnswerBack.{answer-back}
-use Rattle.records.proofs.AnswerForms.{answer-form, answer-owner, answer-range}
-use Rattle.records.proofs.AnswerLaws.{answer-length}
-use Rattle.records.proofs.AnswerSteps.{answer-damaged, answer-is, answer-read, field-is, field-read}
-use Rattle.records.proofs.OneForm.{one-form}
-use Rattle.records.proofs.ReadLaws.{read-in-range, refused-in-range}
-use Rattle.records.proofs.ReadSteps.{as-read, read-alike, request-is, request-read}
-use Rattle.records.proofs.RequestPlaces.{request-written, request-written-one}
-use Rattle.records.proofs.RoundTrip.{round-trip}
-use Rattle.records.proofs.SetsLaws.{sets-rest, sets-taken}
-use Rattle.records.proofs.WrittenBack.{accepted-whole, handed-lists, written-back}
-use Rattle.records.specs.AnswerRead.{readAnswer}
-use Rattle.records.specs.declared.ReadRequest.{ReadRequest}
 use Rattle.numbers.specs.declared.Refusal.{Refusal}
 use Rattle.numbers.specs.declared.Verdict.{Verdict}
 use Rattle.numbers.specs.declared.Verdict.the-variants.{Passed, Refused}
 use Rattle.numbers.specs.Numbers.{ACCEPTED, SLOT-MISSED, LENGTHS-EXHAUSTED}
+use Rattle.placement.proofs.Complete.{placement-none, placement-some}
+use Rattle.placement.specs.Any.{CyclicPlacement}
+use Rattle.placement.specs.Placement.{Place, placement}
+use Rattle.promises.proofs.Archived.{accepted-read}
+use Rattle.promises.proofs.Lengths.{accepted-iff, exhausted-iff, missed-iff, passed-number, refused-iff}
+use Rattle.promises.proofs.ShortFields.{full-one, full-request, same-answer, there-request}
+use Rattle.promises.specs.Promises.{SoundStays, Windows, OneOwner, PlacementComplete, Passes, Shortest, Tries, Stages, OneForm, KeptShortfall, Queries, Exact, Figures, LargerT, RaisingT, AnswersRead, RequestsWritten, AsBefore, GrantedAsThere}
+use Rattle.records.proofs.AnswerLaws.{answer-length}
+use Rattle.records.proofs.OneForm.{one-form}
+use Rattle.records.proofs.ReadLaws.{read-in-range, refused-in-range}
+use Rattle.records.proofs.ReadSteps.{as-read, read-alike, request-is, request-read}
+use Rattle.records.proofs.RoundTrip.{round-trip}
+use Rattle.records.proofs.SetsLaws.{sets-rest, sets-taken}
+use Rattle.records.specs.declared.ReadRequest.{ReadRequest}
 use Rattle.records.specs.Reads.{RequestRead}
 use Rattle.records.specs.Request.{readRequest}
 use Rattle.slots.proofs.Below.{count-most}
@@ -62,11 +62,11 @@ use Rattle.slots.specs.Slots.{entitlement, supply, shortfall}
 use Rattle.timetable.proofs.Listing.{empty-sound, in-force-sound, present-in-force, present-sound, since-weights}
 use Rattle.timetable.proofs.Owner.{serves-one}
 use Rattle.timetable.proofs.Run.{kept-run, present-run, slices-run}
-use Rattle.timetable.proofs.Sound.{ranged-from, sound-from, sound-is}
+use Rattle.timetable.proofs.Sound.{ranged-from, sound-is, sound-from}
 use Rattle.timetable.specs.declared.Entry.{Entry}
 use Rattle.timetable.specs.declared.Timetable.{Timetable}
-use Rattle.timetable.specs.Owner.{ownerNumber}
 use Rattle.timetable.specs.History.{present, inForce, runOf}
+use Rattle.timetable.specs.Owner.{ownerNumber}
 use Rattle.timetable.specs.Sound.{entriesInRange}
 use Rattle.timetable.specs.Timetable.{lists, ownerAt, slicesAt}
 use Rattle.transition.proofs.Reach.{tries-count}

@@ -1,4 +1,5 @@
 pub mod Lengths
 pub mod ShortFields
+pub mod Archived
 pub mod Kept
 pub mod OfCode

@@ -7,6 +7,10 @@ use mathlib.Core.Logic.{_≢_, inl, inr}
 use mathlib.Core.Path.{_≡_, refl, sym, ap, _∙_, subst, subst₂}
 use Prim.Native.Nat.{ℕ}
 use native.Mathlib.Omega.{arith}
+use Rattle.archive.specs.AnswerRead.{noSchedule, readAnswer, scheduleOf}
+use Rattle.archive.specs.AnswerReads.{AnswerRead, FieldRead}
+use Rattle.archive.specs.declared.Writing.{Writing}
+use Rattle.archive.specs.Writes.{RequestWritten}
 use Rattle.change.proofs.Answers.{refusal-number}
 use Rattle.change.proofs.GivenLaws.{wanting-number}
 use Rattle.change.proofs.Histories.{sent-accepted, sent-refused}
@@ -16,20 +20,16 @@ use Rattle.change.specs.declared.Outcome.{Outcome}
 use Rattle.change.specs.Given.{Accepted, Gives, early, schedule, wanting}
 use Rattle.change.specs.Queried.{OwnerGiven, StandingGiven}
 use Rattle.change.specs.Refused.{StagesSay}
-use Rattle.records.proofs.ReadSteps.{as-read, read-alike}
-use Rattle.promises.proofs.Kept.{answers-read, as-before, exact, granted-as-there, kept-shortfall, one-owner, queries, raising-T, requests-written, shortest, sound-stays, stages-kept, windows}
-use Rattle.promises.specs.OfCode.{Meets, Serves, start, accepts, refuses, DemandOne, DemandTwo, DemandThree, DeficitMeans, QueriesOfCode, RaisingTOfCode, AsBeforeOfCode, GrantedOfCode, ArchiveOfCode}
-use Rattle.promises.specs.Promises.{QueriesTell, RaisedT, ReadAs, ServesOne, ShortestOf, ShortfallMeans, StaysAsThere, WindowsKept}
-use Rattle.records.specs.AnswerRead.{noSchedule, readAnswer, scheduleOf}
-use Rattle.records.specs.AnswerReads.{AnswerRead, FieldRead}
-use Rattle.records.specs.declared.Reading.the-variants.{Whole}
-use Rattle.records.specs.declared.ReadRequest.{ReadRequest}
-use Rattle.records.specs.declared.Writing.{Writing}
 use Rattle.numbers.specs.declared.Verdict.the-variants.{Refused}
 use Rattle.numbers.specs.Numbers.{ACCEPTED, SLOT-MISSED, LENGTHS-EXHAUSTED}
+use Rattle.promises.proofs.Kept.{answers-read, exact, kept-shortfall, one-owner, queries, raising-T, requests-written, shortest, sound-stays, stages-kept, windows, as-before, granted-as-there}
+use Rattle.promises.specs.OfCode.{Meets, Serves, start, accepts, refuses, DemandOne, DemandTwo, DemandThree, DeficitMeans, QueriesOfCode, RaisingTOfCode, ArchiveOfCode, AsBeforeOfCode, GrantedOfCode}
+use Rattle.promises.specs.Promises.{QueriesTell, RaisedT, ReadAs, ServesOne, ShortestOf, ShortfallMeans, WindowsKept, StaysAsThere}
+use Rattle.records.proofs.ReadSteps.{as-read, read-alike}
+use Rattle.records.specs.declared.Reading.the-variants.{Whole}
+use Rattle.records.specs.declared.ReadRequest.{ReadRequest}
 use Rattle.records.specs.Reads.{RequestRead}
 use Rattle.records.specs.Request.{readRequest}
-use Rattle.records.specs.Writes.{RequestWritten}
 use Rattle.timetable.specs.declared.Timetable.{Timetable}
 use Rattle.timetable.specs.History.{History, present}
 use Rattle.timetable.specs.Sound.{isSound}

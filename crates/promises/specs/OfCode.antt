@@ -5,6 +5,13 @@ use mathlib.Core.List.{List, [], _∷_}
 use mathlib.Core.Logic.{_↔_, _≢_}
 use mathlib.Core.Path.{_≡_}
 use Prim.Native.Nat.{ℕ, _-_, _≤_, _<_}
+use Rattle.archive.specs.AnswerRead.{fieldAt, noSchedule, readAnswer, readFrom, scheduleOf, toldOwner}
+use Rattle.archive.specs.AnswerReads.{AnswerRead, FieldRead}
+use Rattle.archive.specs.declared.AnswerStep.{AnswerStep}
+use Rattle.archive.specs.declared.ReadAnswer.{ReadAnswer}
+use Rattle.archive.specs.declared.Writing.{Writing}
+use Rattle.archive.specs.RequestWrite.{areaWritten, writeRequest}
+use Rattle.archive.specs.Writes.{RequestWritten}
 use Rattle.change.specs.Change.{outcome, areaAfter}
 use Rattle.change.specs.declared.Outcome.{Outcome}
 use Rattle.change.specs.declared.OwnerAnswer.{OwnerAnswer}
@@ -13,21 +20,14 @@ use Rattle.change.specs.Given.{Accepted, Gives, refusedWith}
 use Rattle.change.specs.Queried.{OwnerGiven, StandingGiven, ownerAnswer, standingAnswer}
 use Rattle.change.specs.Queries.{ownerQuery, standingQuery}
 use Rattle.change.specs.Refused.{StagesSay}
-use Rattle.promises.specs.Promises.{AsksAsThere, InFull, LargerT, Passes, RaisedT, ReadAs, ServesOne, ShortestOf, ShortfallMeans, StaysAsThere, WindowsKept}
-use Rattle.records.specs.AnswerRead.{fieldAt, noSchedule, readAnswer, readFrom, scheduleOf, toldOwner}
-use Rattle.records.specs.AnswerReads.{AnswerRead, FieldRead}
-use Rattle.records.specs.declared.AnswerStep.{AnswerStep}
-use Rattle.records.specs.declared.ReadAnswer.{ReadAnswer}
-use Rattle.records.specs.declared.Reading.the-variants.{Whole}
-use Rattle.records.specs.declared.ReadRequest.{ReadRequest}
-use Rattle.records.specs.declared.Writing.{Writing}
 use Rattle.numbers.specs.declared.Refusal.{Refusal}
 use Rattle.numbers.specs.declared.Verdict.the-variants.{Passed, Refused}
 use Rattle.numbers.specs.Numbers.{ACCEPTED, SLOT-MISSED, LENGTHS-EXHAUSTED}
+use Rattle.promises.specs.Promises.{LargerT, Passes, RaisedT, ReadAs, ServesOne, ShortestOf, ShortfallMeans, WindowsKept, AsksAsThere, InFull, StaysAsThere}
+use Rattle.records.specs.declared.Reading.the-variants.{Whole}
+use Rattle.records.specs.declared.ReadRequest.{ReadRequest}
 use Rattle.records.specs.Reads.{RequestRead}
 use Rattle.records.specs.Request.{readRequest}
-use Rattle.records.specs.Writes.{RequestWritten}
-use Rattle.records.specs.Written.{areaWritten, writeRequest}
 use Rattle.slots.specs.Clocks.{coreSlot, sliceCount}
 use Rattle.slots.specs.declared.CoreSlot.{CoreSlot}
 use Rattle.slots.specs.Limits.{AREA, IDS, LAST-SLOT}

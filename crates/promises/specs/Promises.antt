@@ -7,6 +7,14 @@ use mathlib.Core.Logic.{_↔_, _≢_, _⊎_}
 use mathlib.Core.Option.{none, some}
 use mathlib.Core.Path.{_≡_}
 use Prim.Native.Nat.{ℕ, suc, _+_, _-_, _*_, _≤_, _<_}
+use Rattle.archive.specs.AnswerRead.{fieldAt, noSchedule, readAnswer, readFrom, scheduleOf, scheduleRecord, toldOwner}
+use Rattle.archive.specs.AnswerReads.{AnswerRead, FieldRead, ScheduleRange}
+use Rattle.archive.specs.declared.AnswerStep.{AnswerStep}
+use Rattle.archive.specs.declared.ReadAnswer.{ReadAnswer}
+use Rattle.archive.specs.declared.Schedule.{Schedule}
+use Rattle.archive.specs.declared.Writing.{Writing}
+use Rattle.archive.specs.RequestWrite.{areaWritten, writeRequest}
+use Rattle.archive.specs.Writes.{ListsEntries, RequestWritten}
 use Rattle.change.specs.Change.{outcome, areaAfter, startPlan}
 use Rattle.change.specs.Controller.{Sent, historyOf}
 use Rattle.change.specs.declared.Outcome.{Outcome}
@@ -17,25 +25,18 @@ use Rattle.change.specs.Queried.{OwnerGiven, StandingGiven}
 use Rattle.change.specs.Queries.{ownerQuery, standingQuery}
 use Rattle.change.specs.Refused.{StagesSay}
 use Rattle.change.specs.Stages.{startEntries}
-use Rattle.placement.specs.Any.{CyclicPlacement, NoPlacement}
-use Rattle.placement.specs.Placement.{Place, placement, settle}
-use Rattle.records.specs.AnswerRead.{fieldAt, noSchedule, readAnswer, readFrom, scheduleOf, scheduleRecord, toldOwner}
-use Rattle.records.specs.AnswerReads.{AnswerRead, FieldRead, ScheduleRange}
-use Rattle.records.specs.declared.AnswerStep.{AnswerStep}
-use Rattle.records.specs.declared.Ask.{Ask}
-use Rattle.records.specs.declared.ReadAnswer.{ReadAnswer}
-use Rattle.records.specs.declared.Reading.the-variants.{Whole, Refused as unread}
-use Rattle.records.specs.declared.ReadRequest.{ReadRequest}
 use Rattle.numbers.specs.declared.Refusal.{Refusal}
 use Rattle.numbers.specs.declared.Verdict.the-variants.{Passed, Refused}
-use Rattle.records.specs.declared.Request.{Request}
-use Rattle.records.specs.declared.Schedule.{Schedule}
-use Rattle.records.specs.declared.Writing.{Writing}
 use Rattle.numbers.specs.Numbers.{ACCEPTED, NOT-SOUND, SMALL-AREA, BAD-FIELD, OUT-OF-RANGE, NOT-RISING, TOO-EARLY, OVERFULL, BEHIND, SLOT-MISSED, NOT-LISTED, LENGTHS-EXHAUSTED}
+use Rattle.placement.specs.Any.{CyclicPlacement, NoPlacement}
+use Rattle.placement.specs.Placement.{Place, placement, settle}
+use Rattle.records.specs.declared.Ask.{Ask}
+use Rattle.records.specs.declared.Reading.the-variants.{Whole, Refused as unread}
+use Rattle.records.specs.declared.ReadRequest.{ReadRequest}
+use Rattle.records.specs.declared.Request.{Request}
 use Rattle.records.specs.Reads.{Bytes, RequestRange, RefusalRange, RequestRead}
 use Rattle.records.specs.Request.{askOf, readRequest}
-use Rattle.records.specs.Writes.{ListsEntries, RequestWritten}
-use Rattle.records.specs.Written.{areaWritten, requestRecord, writeRequest}
+use Rattle.records.specs.Written.{requestRecord}
 use Rattle.slots.specs.Below.{count}
 use Rattle.slots.specs.Clocks.{coreSlot, sliceCount}
 use Rattle.slots.specs.declared.CoreSlot.{CoreSlot}
@@ -43,8 +44,8 @@ use Rattle.slots.specs.Limits.{IDS, LONGEST, WHOLE, AREA, LARGEST-BOUND, LARGES
 use Rattle.slots.specs.Slots.{entitlement, supply, shortfall, Since, Listed, KeepsBound}
 use Rattle.timetable.specs.declared.Entry.{Entry}
 use Rattle.timetable.specs.declared.Timetable.{Timetable}
-use Rattle.timetable.specs.Owner.{ownerNumber}
 use Rattle.timetable.specs.History.{History, present, inForce, runOf}
+use Rattle.timetable.specs.Owner.{ownerNumber}
 use Rattle.timetable.specs.Sound.{entriesInRange, isSound}
 use Rattle.timetable.specs.Timetable.{emptyTimetable, entryOf, lists, serves, shortfallAt}
 use Rattle.transition.specs.Reach.{isSearched, HasPlacement, PassedOver, SlotBreaks, CannotReach}

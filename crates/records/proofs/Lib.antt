@@ -12,16 +12,4 @@ pub mod NextStep
 pub mod SetsLaws
 pub mod AreaLaws
 pub mod AnswerPlaces
-pub mod AnswerSteps
-pub mod ScheduleLaws
 pub mod RisingLaws
-pub mod AnswerForms
-pub mod AnswerBack
-pub mod ReaderWalk
-pub mod WriterLaws
-pub mod EntryAsks
-pub mod RequestStores
-pub mod HandedLaws
-pub mod WrittenBack
-pub mod RequestPlaces
-pub mod OneRecord

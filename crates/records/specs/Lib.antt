@@ -2,8 +2,4 @@ pub mod Request
 pub mod Answer
 pub mod AnswerForm
 pub mod Written
-pub mod Writes
-pub mod Put
 pub mod Reads
-pub mod AnswerRead
-pub mod AnswerReads

@@ -7,7 +7,7 @@ ghost use Prim.Native.Nat.{_+_, _≤_, _<_};
 ghost use Rattle.records.specs.Request.{contentAt, isField, numberAt};
 ghost use Rattle.records.specs.Written.{numberBytes};
 
-// Whether at a place stands a field of this tag and length, not cut off.
+// Whether at a place stands a field of this tag and length, not cut off. (Public for the reader of answers alone.)
 pub fn is_field(s: &[u8], at: usize, tag: u8, size: u8) -> bool
     ensures { λ r. ⌜ r ≡ isField (now (s .entry)) at tag size ⌝ }
 {
@@ -23,7 +23,7 @@ pub fn is_field(s: &[u8], at: usize, tag: u8, size: u8) -> bool
     number_at(s, at + 1, 2) == (size as u64)
 }
 
-// Byte n of the content of the field at a place.
+// Byte n of the content of the field at a place. (Public for the reader of answers alone.)
 pub fn content_at(s: &[u8], at: usize, n: usize) -> u8
     requires { ⌜ at + 3 + n < length (now s) ⌝ }
     ensures { λ r. ⌜ r ≡ contentAt (now (s .entry)) at n ⌝ }
@@ -52,7 +52,7 @@ fn wide(b: u8) -> u64
     b as u64
 }
 
-// Writes the tag and the length of a field.
+// Writes the tag and the length of a field. (Public for the writer of requests alone.)
 pub fn put_head(area: &mut [u8], at: usize, tag: u8, size: u8)
     requires { ⌜ at + 3 ≤ length (now area) ⌝ }
     ensures { λ r. ⌜ now (area .exit) ≡ sets (now (area .entry)) at (tag ∷ 0 ∷ size ∷ []) ⌝ }
@@ -62,7 +62,7 @@ pub fn put_head(area: &mut [u8], at: usize, tag: u8, size: u8)
     area[at + 2] = size;
 }
 
-// Writes the last `width` bytes of a number, high byte first. (Public for the board's image alone.)
+// Writes the last `width` bytes of a number, high byte first. (Public for the board's image and the writer of requests alone.)
 pub fn put_number(area: &mut [u8], at: usize, width: usize, number: u64)
     requires { ⌜ at + width ≤ length (now area) ⌝ }
     ensures { λ _. ⌜ now (area .exit) ≡ sets (now (area .entry)) at (numberBytes number width) ⌝ }

@@ -6,11 +6,11 @@ use timetable::Timetable;
 mod fields; // fields.rt: the fields of a record
 pub mod write; // write.rt: writing an answer
 pub mod read; // read.rt: reading a request
-pub mod answer; // answer.rt: what stands at a place of an answer, and from there on
-pub mod writer; // writer.rt: writing a request
-pub mod reader; // reader.rt: a reader of answers that keeps the record and its place, and reading a whole answer
 
+pub use fields::content_at;
+pub use fields::is_field;
 pub use fields::number_at;
+pub use fields::put_head;
 pub use fields::put_number;
 
 // The place of the next field.
@@ -66,45 +66,4 @@ pub struct Request {
 pub struct ReadRequest {
     pub reading: Reading,
     pub request: Request,
-}
-
-// What stands at a place of an answer: the transition's length; its owners, of which this tells how many; an id with its offset; nothing more; or the refusal.
-pub enum AnswerField {
-    Length(u8),
-    Owners(u8),
-    Offset(u8, u8),
-    End,
-    Refused(Refusal),
-}
-
-// What stands at a place, and the place after it. Where nothing more stands or the field is refused, that is the same place.
-pub struct AnswerStep {
-    pub field: AnswerField,
-    pub next: usize,
-}
-
-// What an answer says of an id: whether it is listed, and its offset, 0 where it is not.
-pub struct IdOffset {
-    pub listed: bool,
-    pub offset: u8,
-}
-
-// What an answer says: the transition's length and its owners, and each id's offset.
-pub struct Schedule {
-    pub length: u8,
-    pub owners: [u8; Timetable::LONGEST],
-    pub offsets: [IdOffset; Timetable::IDS],
-}
-
-// An answer as it was read. Where it was refused its schedule is empty.
-pub struct ReadAnswer {
-    pub reading: Reading,
-    pub schedule: Schedule,
-}
-
-// What writing a request returns: its number and place, and the bytes written.
-pub struct Writing {
-    pub number: u8,
-    pub place: usize,
-    pub written: usize,
 }

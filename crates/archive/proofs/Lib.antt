@@ -1,0 +1,12 @@
+pub mod AnswerSteps
+pub mod ScheduleLaws
+pub mod AnswerForms
+pub mod AnswerBack
+pub mod ReaderWalk
+pub mod WriterLaws
+pub mod EntryAsks
+pub mod RequestStores
+pub mod HandedLaws
+pub mod WrittenBack
+pub mod RequestPlaces
+pub mod OneRecord

@@ -1,0 +1,5 @@
+pub mod AnswerRead
+pub mod AnswerReads
+pub mod RequestWrite
+pub mod Writes
+pub mod Put
