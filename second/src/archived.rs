@@ -465,7 +465,7 @@ fn add_request_bytes(figures: &mut Figures) {
         let [id, k, bound] = [0, 1, 2].map(|byte| entry[byte]);
         let asks = format!("id {id}, k {k}, R {bound}");
         let from = format!("entry {index}, {}: {asks}", hexadecimal(entry));
-        (share_field(id, k, bound, false).len(), from)
+        (share_field(id, k, Some(bound)).len(), from)
     };
     fields.extend(b.listing.chunks(ENTRY).enumerate().map(entry));
     let mut rows = vec![format!("{:8}  {:32}  from", "bytes", "written")];
@@ -569,7 +569,7 @@ fn add_indexes(figures: &mut Figures) {
 /// "Writing a request": the short field, which is never written.
 fn add_short(figures: &mut Figures) {
     let [id, k, bound] = [0, 1, 2].map(|byte| asking_b().listing[byte]);
-    let short = share_field(id, k, bound, true);
+    let short = share_field(id, k, None);
     let request = [slot_field(0), longest_field(0), short.clone()].concat();
     let asks = share(&asked(&request).listing, id).bound;
     let head = hexadecimal(&short[..HEAD]);

@@ -5,7 +5,7 @@
 use crate::archive::read_answer;
 use crate::asking::Asking;
 use crate::cases;
-use crate::change::listed;
+use crate::change::{listed, Request};
 use crate::generate::Generator;
 use crate::probe::{answer_content, field_content, request_content};
 use crate::probes::{fresh_history, pattern, trim};
@@ -116,13 +116,16 @@ impl Archives {
         write_answer(&self.history.timetable())
     }
 
-    /// The history's next request; if it is read, it is the one asked last.
+    /// The history's next request; if it is read, it is the one asked last, with each R as it is found.
     fn go_on(&mut self) {
+        let mut before = self.history.timetable();
         let request = self.history.next().unwrap_or_else(|| {
             self.history = fresh_history(&mut self.random);
+            before = self.history.timetable();
             self.history.next().unwrap_or_default()
         });
-        if let Ok(request) = read_request(&request) {
+        if let Ok(read) = read_request(&request) {
+            let request = Request::in_full(&read, &before);
             let entry = |(id, share): (usize, Share)| {
                 [id as u8, share.period.trailing_zeros() as u8, share.bound]
             };

@@ -66,7 +66,7 @@ impl Asking {
     fn record(&self) -> Vec<u8> {
         let mut record = [slot_field(self.slot), longest_field(self.longest)].concat();
         for entry in self.listing.chunks_exact(ENTRY) {
-            record.extend(share_field(entry[0], entry[1], entry[2], false));
+            record.extend(share_field(entry[0], entry[1], Some(entry[2])));
         }
         record
     }

@@ -18,9 +18,19 @@ const BEFORE: u8 = 0xa5;
 pub fn record(slot: u64, longest: u8, shares: &[(u8, u8, u8)]) -> Vec<u8> {
     let mut record = [slot_field(slot), longest_field(longest)].concat();
     for &(id, k, bound) in shares {
-        record.extend(share_field(id, k, bound, false));
+        record.extend(share_field(id, k, Some(bound)));
     }
     record
+}
+
+/// A request like case B's, D's and E's at a slot, with a short field for id 2.
+pub fn request_short(slot: u64, longest: u8) -> Vec<u8> {
+    [record(slot, longest, &[(0, 2, 1), (1, 2, 1)]), share_field(2, 1, None)].concat()
+}
+
+/// What case B lists without id 2, at a slot.
+pub fn request_left(slot: u64, longest: u8) -> Vec<u8> {
+    record(slot, longest, &[(0, 2, 1), (1, 2, 1)])
 }
 
 /// Case A's request.
@@ -76,19 +86,21 @@ fn from_b() -> Vec<Vec<u8>> {
     requests
 }
 
-/// The cases as one stream of requests from the empty timetable; at its end nothing is listed.
+/// The cases as one stream of requests from the empty timetable; at its end nothing is listed. What
+/// B lists at its base leaves the schedule as B's was, so that D with a short field meets that.
 pub fn requests() -> Vec<Vec<u8>> {
     let mut requests = from_empty();
     requests.extend([request_j(), record(0, 0, &[])]);
     requests.extend([request_a(), request_b(6, 0), request_b(6, 1)]);
     requests.extend(from_b());
-    requests.extend([request_b(7, 64), record(7, 64, &[])]);
+    requests.extend([request_b(7, 64), request_short(8, 64)]);
+    requests.extend([request_left(8, 64), request_short(8, 64), record(8, 64, &[])]);
     requests
 }
 
 /// The cases as probes, each from the timetable that it speaks of.
 pub fn probes() -> Vec<Vec<u8>> {
-    [empties(), changes(), areas(), queries()].concat()
+    [empties(), changes(), short_fields(), areas(), queries()].concat()
 }
 
 /// The empty timetable in an image, and in one that is too short.
@@ -112,6 +124,17 @@ fn changes() -> Vec<Vec<u8>> {
     probes.push(change_probe(&late_slice(), &record(0, 0, &[(0, 1, 1), (3, 2, 1)]), 231));
     probes.push(change_probe(&all_listed(), &all_again(), 231));
     probes
+}
+
+/// After B: D with a short field for id 2; at slot 7 id 2 is left out, and returns by a short field.
+fn short_fields() -> Vec<Vec<u8>> {
+    let b = [request_a(), request_b(6, 1)];
+    let left = [&b[..], &[request_left(7, 64)]].concat();
+    vec![
+        change_probe(&after(&b), &request_short(8, 64), 231),
+        change_probe(&after(&b), &request_left(7, 64), 231),
+        change_probe(&after(&left), &request_short(7, 64), 231),
+    ]
 }
 
 /// Areas of 230 bytes, of 231 and more, and faults of several stages at once.

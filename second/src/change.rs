@@ -1,7 +1,7 @@
 //! The change: the stages in their order, and rules 1 to 4 with the transition and the placement.
 
 use crate::numbers;
-use crate::records::{read_request, write_answer, Request};
+use crate::records::{read_request, write_answer, ReadRequest};
 use crate::slots::{last_offset, own_slots, pass_slot, room, Shortfalls, Walk};
 use crate::timetable::{Entry, Listing, Share, Timetable, CYCLE, IDS, LONGEST_TRANSITION};
 
@@ -38,6 +38,37 @@ impl Refusal {
     }
 }
 
+/// What a request asks of a timetable, in full: its slot, the longest transition T, and the listing
+/// from that slot on, with an R for each id.
+#[derive(Clone, Copy, Debug, PartialEq, Eq)]
+pub struct Request {
+    pub slot: u64,
+    pub longest: u8,
+    pub listing: Listing,
+}
+
+impl Request {
+    /// A request that was read, with the R as before where a field is short.
+    pub fn in_full(read: &ReadRequest, timetable: &Timetable) -> Request {
+        let mut listing = [None; IDS];
+        for (id, ask) in read.asks.iter().enumerate() {
+            listing[id] = ask.map(|ask| Share {
+                period: ask.period,
+                bound: ask.bound.unwrap_or(bound_before(timetable, id)),
+            });
+        }
+        Request { slot: read.slot, longest: read.longest, listing }
+    }
+}
+
+/// The R as before: the one with which an id is listed, and 1 for one that is not listed.
+pub fn bound_before(timetable: &Timetable, id: usize) -> u8 {
+    match timetable.listing()[id] {
+        Some(share) => share.bound,
+        None => 1,
+    }
+}
+
 /// A found schedule: transition owners, offsets, shortfalls at the base, and tries.
 struct Schedule {
     owners: Vec<u8>,
@@ -70,10 +101,11 @@ fn answer(timetable: &Timetable, record: &[u8], area: usize) -> Result<(Timetabl
     if area < AREA {
         return Err(Refusal::plain(numbers::AREA_TOO_SMALL, 0));
     }
-    let request = read_request(record)?;
-    if request.slot < timetable.base {
+    let read = read_request(record)?;
+    if read.slot < timetable.base {
         return Err(Refusal::plain(numbers::TOO_EARLY, 0));
     }
+    let request = Request::in_full(&read, timetable);
     within_core(&request.listing)?;
     let shortfalls = shortfalls_at(timetable, &request);
     within_bounds(&request.listing, &shortfalls)?;
@@ -93,7 +125,7 @@ fn within_core(listing: &Listing) -> Result<(), Refusal> {
     Ok(())
 }
 
-/// Rule 1: the shortfalls at the request slot; a newly listed partition starts at 0.
+/// Rule 1, beside the R as before: the shortfalls at the request slot; a newly listed partition starts at 0.
 fn shortfalls_at(timetable: &Timetable, request: &Request) -> Shortfalls {
     let mut shortfalls = [0; IDS];
     let mut walk = Walk::from_base(timetable);

@@ -139,7 +139,7 @@ fn share_out_of_range(random: &mut Random, fields: &mut Fields) {
         2 => bound = if far { 255 } else { 9 },
         _ => bound = 0,
     }
-    let share = share_field(id, k, bound, false);
+    let share = share_field(id, k, Some(bound));
     let at = 2 + random.below(fields.len() as u64) as usize;
     match fields.get_mut(at) {
         Some(field) => *field = share,
@@ -149,7 +149,7 @@ fn share_out_of_range(random: &mut Random, fields: &mut Fields) {
 
 /// Some share's id equals the one before it or falls below it.
 fn id_not_rising(random: &mut Random, fields: &mut Fields) {
-    let fresh = share_field(random.below(IDS as u64) as u8, 8, 1, true);
+    let fresh = share_field(random.below(IDS as u64) as u8, 8, None);
     if fields.len() < 3 {
         fields.push(fresh);
     }
@@ -164,9 +164,10 @@ fn id_not_rising(random: &mut Random, fields: &mut Fields) {
 /// All 32 ids are listed, and a 33rd share comes after them.
 fn one_share_too_many(random: &mut Random, fields: &mut Fields) {
     fields.truncate(2);
-    fields.extend((0..IDS as u8).map(|id| share_field(id, 8, 1, random.chance(1, 2))));
+    let bound = |random: &mut Random| Some(1).filter(|_| random.chance(1, 2));
+    fields.extend((0..IDS as u8).map(|id| share_field(id, 8, bound(random))));
     let id = random.pick(&[31, 32, 0, 255]).unwrap_or(31);
-    let mut last = share_field(id, 8, 1, true);
+    let mut last = share_field(id, 8, None);
     if random.chance(1, 4) {
         last.truncate(4);
     }

@@ -2,14 +2,13 @@
 //! help, and the earlier meaning of 9.
 
 use crate::cases::{record, request_a, request_b, request_d};
-use crate::change::{listed, Outcome};
+use crate::change::{listed, Outcome, Request};
 use crate::figures::{aligned, hexadecimal, in_turn, list, list_and, list_with, Figures};
 use crate::frames::frame;
 use crate::numbers;
 use crate::queries::standing_query;
 use crate::records::{
-    longest_field, share_field, slot_field, with_longest, Request, HEAD, TAG_LONGEST, TAG_SHARE,
-    TAG_SLOT,
+    longest_field, share_field, slot_field, with_longest, HEAD, TAG_LONGEST, TAG_SHARE, TAG_SLOT,
 };
 use crate::run::Run;
 use crate::timetable::{
@@ -145,8 +144,8 @@ fn add_bytes_asked(figures: &mut Figures) {
     figures.phrase(RAISING, format!("a larger number in field {TAG_SLOT:02x}"));
     figures.phrase(RAISING, format!("field {TAG_SHARE:02x}, at most {LARGEST_BOUND}"));
     let Share { period, bound } = share(&asked_b().listing, PUMP_LOOP);
-    let field = |short: bool| share_field(PUMP_LOOP, period.trailing_zeros() as u8, bound, short);
-    let (short, full) = (field(true), field(false));
+    let field = |bound| share_field(PUMP_LOOP, period.trailing_zeros() as u8, bound);
+    let (short, full) = (field(None), field(Some(bound)));
     let request = [slot_field(0), longest_field(0), short.clone()].concat();
     let asks = share(&asked(&request).listing, PUMP_LOOP).bound;
     let head = |field: &[u8]| hexadecimal(&field[..HEAD]);

@@ -482,8 +482,8 @@ fn add_request(figures: &mut Figures) {
     let (asked, ids) = (asked_b(), format!("0 to {}", IDS - 1));
     let exponents = format!("0 to {LARGEST_EXPONENT}");
     let exponent = |id: u8| share(&asked.listing, id).period.trailing_zeros() as u8;
-    let full = share_field(VALVE, exponent(VALVE), share(&asked.listing, VALVE).bound, false);
-    let short = share_field(PUMP_LOOP, exponent(PUMP_LOOP), bound(PUMP_LOOP), true);
+    let full = share_field(VALVE, exponent(VALVE), Some(bound(VALVE)));
+    let short = share_field(PUMP_LOOP, exponent(PUMP_LOOP), None);
     let ranges = format!("{ids}, {exponents}, 1 to {LARGEST_BOUND}");
     let required = format!("one field {TAG_SLOT:02x}, then one field {TAG_LONGEST:02x}");
     let listed = format!("0 to {IDS} fields {TAG_SHARE:02x}");

@@ -1,12 +1,12 @@
 //! Random streams of requests that aim: the state is followed by the model, and candidates are
 //! tried against it until one brings what is aimed at, such as a long transition or a missed slot.
 
-use crate::change::{change, listed, Outcome, AREA};
+use crate::change::{bound_before, change, listed, Outcome, Request, AREA};
 use crate::damage::damaged;
 use crate::numbers::{ACCEPTED, LENGTHS_EXHAUSTED, SHORTFALL_TOO_LARGE, SLOT_MISSED};
 use crate::queries::standing_query;
 use crate::random::Random;
-use crate::records::{longest_field, read_request, share_field, slot_field, with_longest, Request};
+use crate::records::{longest_field, read_request, share_field, slot_field, with_longest};
 use crate::timetable::{
     Entry, Listing, Share, Timetable, CYCLE, IDS, LARGEST_BOUND, LARGEST_EXPONENT, LAST_SLOT,
     LONGEST_TRANSITION,
@@ -78,7 +78,7 @@ impl Generator {
         match self.random.below(100) {
             0..=26 => {
                 let request = self.any_change();
-                let fields = fields(&mut self.random, &request);
+                let fields = self.fields(&request);
                 damaged(&mut self.random, fields)
             }
             27..=30 => self.too_early(),
@@ -169,7 +169,7 @@ impl Generator {
         let mut record = slot_field(request.slot);
         record.extend(longest_field(request.longest));
         for (id, share) in listed(&request.listing) {
-            record.extend(share_field(id as u8, exponent(share), share.bound, false));
+            record.extend(share_field(id as u8, exponent(share), Some(share.bound)));
         }
         change(&self.timetable, &record, &mut [0; AREA])
     }
@@ -463,9 +463,22 @@ impl Generator {
         base.saturating_add(step).min(LAST_SLOT)
     }
 
-    /// The record of a request, with some short fields where R is 1.
+    /// The record of a request, with some short fields where R is as before.
     fn record(&mut self, request: &Request) -> Vec<u8> {
-        fields(&mut self.random, request).concat()
+        self.fields(request).concat()
+    }
+
+    /// The fields of a request one by one, some short where R is as before.
+    fn fields(&mut self, request: &Request) -> Vec<Vec<u8>> {
+        let mut fields = vec![slot_field(request.slot), longest_field(request.longest)];
+        let all_short = self.random.chance(1, 4);
+        for (id, share) in listed(&request.listing) {
+            let short = all_short || self.random.chance(1, 3);
+            let as_before = share.bound == bound_before(&self.timetable, id);
+            let bound = Some(share.bound).filter(|_| !(short && as_before));
+            fields.push(share_field(id as u8, exponent(share), bound));
+        }
+        fields
     }
 }
 
@@ -504,17 +517,6 @@ fn meets(aim: Aim, outcome: &Outcome) -> bool {
             outcome.number == ACCEPTED && (first..=last).contains(&outcome.timetable.length)
         }
     }
-}
-
-/// The fields of a request one by one, some short where R is 1.
-fn fields(random: &mut Random, request: &Request) -> Vec<Vec<u8>> {
-    let mut fields = vec![slot_field(request.slot), longest_field(request.longest)];
-    let all_short = random.chance(1, 4);
-    for (id, share) in listed(&request.listing) {
-        let short = all_short || random.chance(1, 3);
-        fields.push(share_field(id as u8, exponent(share), share.bound, short));
-    }
-    fields
 }
 
 /// The exponent k of a share's period 2^k.

@@ -3,7 +3,7 @@
 use crate::change::Refusal;
 use crate::numbers;
 use crate::timetable::{
-    bound_in_range, Listing, Share, Timetable, IDS, LARGEST_EXPONENT, LAST_SLOT, LONGEST_TRANSITION,
+    bound_in_range, Timetable, IDS, LARGEST_EXPONENT, LAST_SLOT, LONGEST_TRANSITION,
 };
 
 /// The tags of a request's fields: slot, T, and a share.
@@ -18,27 +18,35 @@ pub const TAG_OFFSET: u8 = 0x12;
 /// The bytes of a tag and a length before the content.
 pub const HEAD: usize = 3;
 
-/// What a request asks: its slot, the longest transition T, and the listing from that slot on.
+/// What a share's field asks for its id: a period, and R unless the field is short.
 #[derive(Clone, Copy, Debug, PartialEq, Eq)]
-pub struct Request {
+pub struct Ask {
+    pub period: u16,
+    pub bound: Option<u8>,
+}
+
+/// A request as it is read, whatever the timetable: its slot, the longest transition T, and what is
+/// asked for each id that it lists.
+#[derive(Clone, Copy, Debug, PartialEq, Eq)]
+pub struct ReadRequest {
     pub slot: u64,
     pub longest: u8,
-    pub listing: Listing,
+    pub asks: [Option<Ask>; IDS],
 }
 
 /// A request is a slot, T, and 0 to 32 shares with rising ids, in this order, nothing after.
-pub fn read_request(record: &[u8]) -> Result<Request, Refusal> {
+pub fn read_request(record: &[u8]) -> Result<ReadRequest, Refusal> {
     let (slot, at) = read_slot(record)?;
     let (longest, mut at) = read_longest(record, at)?;
-    let mut listing = [None; IDS];
+    let mut asks = [None; IDS];
     let mut before = None;
     while at < record.len() {
-        let (id, share, next) = read_share(record, at, before)?;
-        listing[usize::from(id)] = Some(share);
+        let (id, ask, next) = read_share(record, at, before)?;
+        asks[usize::from(id)] = Some(ask);
         before = Some(id);
         at = next;
     }
-    Ok(Request { slot, longest, listing })
+    Ok(ReadRequest { slot, longest, asks })
 }
 
 /// Tag 1, length 8: the request slot, at most 2^48 - 1.
@@ -57,19 +65,20 @@ fn read_longest(record: &[u8], at: usize) -> Result<(u8, usize), Refusal> {
     Ok((longest, at + HEAD + content.len()))
 }
 
-/// Tag 3, length 3 (id, k, R) or length 2 (id, k), where R is 1; ids strictly rise.
-fn read_share(record: &[u8], at: usize, before: Option<u8>) -> Result<(u8, Share, usize), Refusal> {
+/// Tag 3, length 3 (id, k, R) or length 2 (id, k), where R is not given; ids strictly rise.
+fn read_share(record: &[u8], at: usize, before: Option<u8>) -> Result<(u8, Ask, usize), Refusal> {
     let content = field(record, at, TAG_SHARE, &[2, 3])?;
     let (id, k, bound) = match *content {
-        [id, k] => (id, k, 1),
-        [id, k, bound] => (id, k, bound),
+        [id, k] => (id, k, None),
+        [id, k, bound] => (id, k, Some(bound)),
         _ => return Err(Refusal::at_byte(numbers::WRONG_FIELD, at)),
     };
-    in_range(usize::from(id) < IDS && k <= LARGEST_EXPONENT && bound_in_range(bound), at)?;
+    in_range(usize::from(id) < IDS && k <= LARGEST_EXPONENT, at)?;
+    in_range(bound.map_or(true, bound_in_range), at)?;
     if before.is_some_and(|before| id <= before) {
         return Err(Refusal::at_byte(numbers::ID_NOT_RISING, at));
     }
-    Ok((id, Share { period: 1 << k, bound }, at + HEAD + content.len()))
+    Ok((id, Ask { period: 1 << k, bound }, at + HEAD + content.len()))
 }
 
 /// The content of the field at a byte, unless it is missing, another, of wrong length or cut off.
@@ -110,12 +119,11 @@ pub fn answer_record(owners: &[u8], offsets: &[Option<u8>; IDS]) -> Vec<u8> {
     answer
 }
 
-/// A share's field in full, or short where R is 1 and a short one is wanted.
-pub fn share_field(id: u8, k: u8, bound: u8, short: bool) -> Vec<u8> {
-    if short && bound == 1 {
-        vec![TAG_SHARE, 0, 2, id, k]
-    } else {
-        vec![TAG_SHARE, 0, 3, id, k, bound]
+/// A share's field in full, with its R, or the short one, which gives none.
+pub fn share_field(id: u8, k: u8, bound: Option<u8>) -> Vec<u8> {
+    match bound {
+        Some(bound) => vec![TAG_SHARE, 0, 3, id, k, bound],
+        None => vec![TAG_SHARE, 0, 2, id, k],
     }
 }
 

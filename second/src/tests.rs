@@ -2,7 +2,7 @@
 //! transitions worked out by hand, the clauses of soundness, both queries, the frames, and the skip
 //! of repeated cycles.
 
-use crate::cases::{self, record, request_a, request_d};
+use crate::cases::{self, record, request_a, request_d, request_left, request_short};
 use crate::change::{change, most_urgent, placement, Outcome, AREA};
 use crate::counts::RequestCounts;
 use crate::frames::{frame, print_lines, LONGEST_FRAME};
@@ -78,13 +78,12 @@ fn case_a() {
     assert_eq!(offsets(&timetable, [0, 1]), [3, 2]);
 }
 
-/// A with short fields, where R is then 1, gives the same timetable.
+/// A with short fields: the empty timetable lists none of the ids, so R is 1 as in A.
 #[test]
 fn case_a_with_short_fields() {
     let record = [1, 0, 8, 0, 0, 0, 0, 0, 0, 0, 0, 2, 0, 1, 0, 3, 0, 2, 0, 2, 3, 0, 3, 1, 2, 1];
     assert_eq!(accepted(&Timetable::empty(), &record, 1), after_a());
-    let short =
-        [slot_field(0), longest_field(0), share_field(0, 2, 1, true), share_field(1, 2, 1, true)];
+    let short = [slot_field(0), longest_field(0), share_field(0, 2, None), share_field(1, 2, None)];
     assert_eq!(short.concat().len(), 25);
     assert_eq!(accepted(&Timetable::empty(), &short.concat(), 1), after_a());
 }
@@ -120,6 +119,38 @@ fn case_d() {
     let b = after_b();
     assert_eq!(shortfalls(&b, 8)[2], 256);
     refused(&b, &request_d(8, 64), 8, 2, 0);
+}
+
+/// D with a short field for id 2, which B lists with R 2: 256 is below 512, and the last offsets at
+/// slot 8 are 3, 2 and 1, so id 2 takes the odd slots, id 1 slot 2 and id 0 slot 0.
+#[test]
+fn case_d_with_a_short_field() {
+    let b = after_b();
+    assert_eq!(shortfalls(&b, 8), [0, 64, 256]);
+    for longest in [0, 1, 64] {
+        let after = accepted(&b, &request_short(8, longest), 1);
+        assert_eq!((after.request_slot, after.length, after.base), (8, 0, 8));
+        assert_eq!(offsets(&after, [0, 1, 2]), [0, 2, 1]);
+        assert_eq!([0, 1, 2].map(|id| after.entries[id].bound), [1, 1, 2]);
+        assert_eq!([0, 1, 2].map(|id| after.entries[id].shortfall), [0, 64, 256]);
+    }
+    let (_, area) = answered(&b, &request_short(8, 64));
+    let bytes = [0x10, 0, 1, 0, 0x11, 0, 0, 0x12, 0, 2, 0, 0, 0x12, 0, 2, 1, 2, 0x12, 0, 2, 2, 1];
+    assert_eq!(area, bytes);
+}
+
+/// At slot 7 id 2 is left out: id 0, with room 0, takes slot 0, and id 1 slot 3. It returns at slot 7
+/// by a short field, newly listed with R 1 and last offset 1, and takes the odd slots.
+#[test]
+fn leaving_and_returning_with_a_short_field() {
+    let left = accepted(&after_b(), &request_left(7, 64), 1);
+    assert_eq!(offsets(&left, [0, 1]), [0, 3]);
+    assert_eq!(left.entries[2], Entry::default());
+    let returned = accepted(&left, &request_short(7, 64), 1);
+    assert_eq!((returned.request_slot, returned.length, returned.base), (7, 0, 7));
+    assert_eq!(offsets(&returned, [0, 1, 2]), [0, 2, 1]);
+    assert_eq!([0, 1, 2].map(|id| returned.entries[id].bound), [1, 1, 1]);
+    assert_eq!([0, 1, 2].map(|id| returned.entries[id].shortfall), [192, 0, 0]);
 }
 
 /// A request is refused 9 with a slot as its place at each T above it, and else 11 with place T.
@@ -289,7 +320,7 @@ fn fields_refused_3() {
         refused(&empty, &[&whole[..], &[tail]].concat(), 3, 27, 0);
     }
     refused(&empty, &longest_field(0), 3, 0, 0);
-    refused(&empty, &[slot_field(0), share_field(0, 0, 1, false)].concat(), 3, 11, 0);
+    refused(&empty, &[slot_field(0), share_field(0, 0, Some(1))].concat(), 3, 11, 0);
     refused(&empty, &[&whole[..15], &longest_field(0)].concat(), 3, 15, 0);
 }
 
@@ -792,7 +823,7 @@ fn lines_of_the_cases() {
     let lines = "1 3 0 0 0\n2 3 11 0 0\n3 4 0 0 0\n4 4 11 0 0\n5 0 0 1 0\n6 0 0 1 0\n7 7 9 0 0\n\
                  8 0 0 1 0\n9 0 0 1 0\n10 0 0 1 0\n11 11 0 1 0\n12 0 0 2 1\n13 8 2 0 0\n\
                  14 11 0 1 0\n15 11 1 2 0\n16 11 2 3 0\n17 9 2 3 0\n18 9 2 3 0\n19 6 0 0 0\n\
-                 20 0 0 1 0\n21 0 0 1 0\n";
+                 20 0 0 1 0\n21 0 0 1 0\n22 0 0 1 0\n23 0 0 1 0\n24 0 0 1 0\n";
     assert_eq!(lines_of(&input), lines);
 }
 
@@ -822,6 +853,21 @@ fn change_lines() -> Vec<String> {
     let refusals = ["8 2 0", "11 0 1", "11 1 2", "11 2 3", "9 2 3", "9 2 3", "6 0 0"];
     lines.extend(refusals.map(|refusal| format!("change {refusal} 0 {IMAGE_B} +231")));
     lines
+}
+
+/// The probe's lines for the short fields after B: slot 8 with R 2 and shortfalls 0, 64 and 256; slot
+/// 7 without id 2, shortfalls 192 and 0; and slot 7 with it again, R 1 and shortfall 0.
+fn short_lines() -> Vec<String> {
+    let kept = "000708004808000104000101000304020100014000010201020100af";
+    let left = "0007070048070001040001010001c0000104030100b6";
+    let returned = "0007070048070001040001010001c00001040201000302010100b0";
+    let answer = ANSWER_B.replace("1000010111000101", "10000100110000");
+    let without = "1000010011000012000200001200020103";
+    vec![
+        format!("change 0 0 1 22 {kept} {answer}+209"),
+        format!("change 0 0 1 17 {left} {without}+214"),
+        format!("change 0 0 1 22 {returned} {answer}+209"),
+    ]
 }
 
 /// The probe's lines for the cases' areas: 230 is refused 2, 231 and more are enough.
@@ -868,6 +914,8 @@ fn probe_lines_of_the_cases() {
     assert_eq!(others[1], format!("change 0 0 1 17 {late_slice} {answer}+214"));
     assert!(others[2].starts_with("change 0 0 1 167 0007400048400001201f010003201e"));
     assert!(others[2].ends_with("1200021e011200021f00+64"));
+    let (short, rest) = rest.split_at(3);
+    assert_eq!(short, short_lines());
     let (areas, queries) = rest.split_at(7);
     assert_eq!(areas, area_lines());
     assert_eq!(queries, query_lines());

@@ -2,11 +2,11 @@
 //! windows are looked at, each length tried is held against a search through all choices of
 //! offsets, and each refusal for want of a schedule against these and whoever may get a slot.
 
-use crate::change::{change, listed, Outcome, AREA};
+use crate::change::{change, listed, Outcome, Request, AREA};
 use crate::generate::Generator;
 use crate::queries::{owner_query, standing_query};
 use crate::random::Random;
-use crate::records::{longest_field, read_request, share_field, slot_field, Request};
+use crate::records::{longest_field, read_request, share_field, slot_field};
 use crate::slots::Shortfalls;
 use crate::timetable::{Listing, Share, Timetable, IDLE, IDS};
 use std::collections::BTreeSet;
@@ -380,7 +380,7 @@ fn record_of(request: &Request) -> Vec<u8> {
     let mut record = [slot_field(request.slot), longest_field(request.longest)].concat();
     for (id, share) in listed(&request.listing) {
         let k = (0..=8).find(|k| share.period == 1 << k).unwrap_or(0);
-        record.extend(share_field(id as u8, k, share.bound, true));
+        record.extend(share_field(id as u8, k, Some(share.bound)));
     }
     record
 }

@@ -3,11 +3,11 @@
 use crate::archive::read_answer;
 use crate::asking::Asking;
 use crate::cases::{record, request_a, request_b, request_d};
-use crate::change::{change, Outcome, AREA};
+use crate::change::{change, Outcome, Request, AREA};
 use crate::figures::aligned;
 use crate::frames::{frame, print_lines};
 use crate::numbers::{LENGTHS_EXHAUSTED, SLOT_MISSED};
-use crate::records::{read_request, Request};
+use crate::records::read_request;
 use crate::run::Run;
 use crate::slots::{pass_slot, room, Shortfalls};
 use crate::timetable::{Listing, Share, Timetable, CYCLE, IDLE, IDS, LONGEST_TRANSITION};
@@ -28,9 +28,18 @@ pub fn bytes_b() -> Vec<u8> {
     request_b(6, 1)
 }
 
-/// What a case's request asks; one that cannot be read asks for nothing.
+/// What a request asks in full of the last timetable of a run; one that cannot be read asks for
+/// nothing.
+pub fn asked_after(run: &Run, request: &[u8]) -> Request {
+    match read_request(request) {
+        Ok(read) => Request::in_full(&read, &run.present()),
+        Err(_) => Request { slot: 0, longest: 0, listing: [None; IDS] },
+    }
+}
+
+/// What a case's request asks, whose fields are in full.
 pub fn asked(request: &[u8]) -> Request {
-    read_request(request).unwrap_or(Request { slot: 0, longest: 0, listing: [None; IDS] })
+    asked_after(&Run::empty(), request)
 }
 
 /// What case A asks.

@@ -4,9 +4,8 @@
 use crate::archives::Archives;
 use crate::asking::Asking;
 use crate::cases::{record, request_a, request_b};
-use crate::change::listed;
 use crate::probe::{read_probe, Probe};
-use crate::records::read_request;
+use crate::records::{read_request, Ask};
 use crate::timetable::LAST_SLOT;
 
 /// The byte that fills areas before a call.
@@ -46,10 +45,9 @@ fn check_writing(asking: &Asking, size: usize) -> u8 {
     assert_eq!(bytes, 15 + 6 * (asking.listing.len() / 3));
     let request = read_request(&area[..bytes]).expect("the controller reads it");
     assert_eq!((request.slot, request.longest), (asking.slot, asking.longest));
-    let listing: Vec<u8> = listed(&request.listing)
-        .flat_map(|(id, share)| [id as u8, share.period.ilog2() as u8, share.bound])
-        .collect();
-    assert_eq!(listing, asking.listing);
+    let entry = |(id, ask): (u8, Ask)| [id, ask.period.ilog2() as u8, ask.bound.unwrap_or(0)];
+    let asks = (0..).zip(request.asks).filter_map(|(id, ask)| Some((id, ask?)));
+    assert_eq!(asks.flat_map(entry).collect::<Vec<u8>>(), asking.listing);
     number
 }
 
