@@ -2,12 +2,13 @@
 
 use crate::archive::FieldTold;
 use crate::breaks::CLAUSES;
-use crate::change::{change, AREA};
-use crate::generate::Generator;
+use crate::change::{change, Outcome, AREA};
+use crate::generate::{Generator, Left};
 use crate::numbers::{ACCEPTED, LENGTHS_EXHAUSTED, SLOT_MISSED};
 use crate::probe::{put, read_probe, timetable_of, Probe, Reply};
 use crate::probes::{Made, Origin, Probes};
 use crate::records::{read_request, with_longest};
+use crate::short_counts::ShortCounts;
 use crate::timetable::{Timetable, LONGEST_TRANSITION};
 
 /// The numbers of answers, 0 to 11.
@@ -61,13 +62,15 @@ impl Wants {
     }
 }
 
-/// The numbers, refusals for want of a schedule, requests put again and lengths of a stream.
+/// The numbers, refusals for want of a schedule, requests put again, lengths and short fields of a
+/// stream.
 #[derive(Default)]
 pub struct RequestCounts {
     pub numbers: [u64; NUMBERS],
     pub wants: Wants,
     pub again: [u64; AGAIN.len()],
     pub lengths: [u64; LENGTHS.len()],
+    pub short: ShortCounts,
 }
 
 impl RequestCounts {
@@ -76,6 +79,7 @@ impl RequestCounts {
         let mut counts = RequestCounts::default();
         let mut timetable = Timetable::empty();
         let mut before = (Vec::new(), ACCEPTED);
+        let mut left = Left::default();
         for request in requests {
             let outcome = change(&timetable, &request, &mut [0; AREA]);
             add(&mut counts.numbers, usize::from(outcome.number));
@@ -87,13 +91,16 @@ impl RequestCounts {
             if outcome.number == ACCEPTED {
                 add(&mut counts.lengths, length_class(outcome.timetable.length));
             }
+            counts.short.count(&timetable, &left, &request, &outcome);
+            left.follow(&timetable, &outcome.timetable);
             timetable = outcome.timetable;
             before = (request, outcome.number);
         }
         counts
     }
 
-    /// The tables: numbers, refusals for want of a schedule, requests put again, and lengths.
+    /// The tables: numbers, refusals for want of a schedule, requests put again, lengths, and short
+    /// fields.
     pub fn tables(&self) -> String {
         let numbers: Vec<String> = (0..NUMBERS).map(|number| number.to_string()).collect();
         let tables = [
@@ -101,6 +108,7 @@ impl RequestCounts {
             self.wants.tables(),
             class_table("Again with a larger T", &AGAIN, &self.again),
             class_table("Transition length", &LENGTHS, &self.lengths),
+            self.short.tables(true),
         ];
         tables.join("\n")
     }
@@ -154,13 +162,14 @@ impl KindCounts {
     }
 }
 
-/// The kinds, numbers, refusals for want of a schedule, lengths, area sizes and timetables of a
-/// stream of probes.
+/// The kinds, numbers, refusals for want of a schedule, lengths, short fields, area sizes and
+/// timetables of a stream of probes.
 #[derive(Default)]
 pub struct ProbeCounts {
     pub kinds: KindCounts,
     pub wants: Wants,
     pub lengths: [u64; LENGTHS.len()],
+    pub short: ShortCounts,
     pub areas: [u64; AREAS.len()],
     pub origins: Vec<OriginCount>,
 }
@@ -199,19 +208,26 @@ impl ProbeCounts {
         }
     }
 
-    /// A change is counted by its area, and by its acceptance's length or its want of a schedule.
+    /// A change is counted by its area, by its acceptance's length or its want of a schedule, and by
+    /// its short fields.
     fn count_change(&mut self, probe: &Probe, reply: &Reply) {
-        let (Probe::Change { request, .. }, Reply::Change { number, place, image, area, .. }) =
-            (probe, reply)
+        let (
+            Probe::Change { image, request, .. },
+            &Reply::Change { number, place, tries, written, image: ref after, ref area },
+        ) = (probe, reply)
         else {
             return;
         };
         add(&mut self.areas, area_class(area.len()));
-        let Some(left) = timetable_of(image) else { return };
-        match *number {
-            ACCEPTED => add(&mut self.lengths, length_class(left.length)),
-            number => self.wants.count(&left, request, (number, *place)),
+        let (Some(before), Some(timetable)) = (timetable_of(image), timetable_of(after)) else {
+            return;
+        };
+        match number {
+            ACCEPTED => add(&mut self.lengths, length_class(timetable.length)),
+            number => self.wants.count(&before, request, (number, place)),
         }
+        let outcome = Outcome { number, place, tries, written, timetable };
+        self.short.count(&before, &Left::default(), request, &outcome);
     }
 
     /// An image is counted by how it was made, and whether it is sound.
@@ -223,13 +239,14 @@ impl ProbeCounts {
         }
     }
 
-    /// The tables: numbers by kind, refusals for want of a schedule, lengths, area sizes, and
-    /// timetables by how they were made.
+    /// The tables: numbers by kind, refusals for want of a schedule, lengths, short fields, area
+    /// sizes, and timetables by how they were made.
     pub fn tables(&self) -> String {
         let tables = [
             self.kinds.table(),
             self.wants.tables(),
             class_table("Transition length", &LENGTHS, &self.lengths),
+            self.short.tables(false),
             class_table("Area", &AREAS, &self.areas),
             self.origin_table(),
         ];

@@ -20,7 +20,8 @@ const LEAST_JUMP_PART: u64 = 64;
 const END_STEP: u64 = 64;
 
 /// What a request is meant to bring: anything, an acceptance with a length in a range, a slot in a
-/// range that is missed (9), a shortfall too large (8), or all lengths up to T in vain (11).
+/// range that is missed (9), a shortfall too large (8), all lengths up to T in vain (11), or an
+/// acceptance where R 1 in place of each R as before would be a shortfall too large.
 #[derive(Clone, Copy, PartialEq, Eq)]
 enum Aim {
     Any,
@@ -28,10 +29,37 @@ enum Aim {
     Missed(u64, u64),
     Behind,
     Exhausted,
+    Kept,
+}
+
+/// The ids that left with R above 1 and did not return so far, each with the slot that it left for.
+#[derive(Clone, Copy, Debug, Default, PartialEq, Eq)]
+pub struct Left {
+    slots: [Option<u64>; IDS],
+}
+
+impl Left {
+    /// One timetable follows another: ids leave and return.
+    pub fn follow(&mut self, before: &Timetable, after: &Timetable) {
+        for id in 0..IDS {
+            let (was, is) = (before.entries[id], after.entries[id]);
+            if is.listed() {
+                self.slots[id] = None;
+            } else if was.listed() && was.bound > 1 {
+                self.slots[id] = Some(after.request_slot);
+            }
+        }
+    }
+
+    /// The slot for which an id left with R above 1, if it did not return.
+    pub fn slot(&self, id: usize) -> Option<u64> {
+        self.slots[id]
+    }
 }
 
 /// A stream of requests, with the timetable that holds after those given so far, the aim that waits
-/// for its block, and the request that the desk puts again.
+/// for its block, the request that the desk puts again, the id that was left out just now with the
+/// period that it had, and those that left with R above 1.
 pub struct Generator {
     random: Random,
     timetable: Timetable,
@@ -40,6 +68,8 @@ pub struct Generator {
     jump_part: u64,
     pending: Option<Aim>,
     again: Option<Vec<u8>>,
+    out: Option<(usize, u16)>,
+    left_with: Left,
 }
 
 impl Generator {
@@ -58,6 +88,8 @@ impl Generator {
             jump_part: (count / 64).max(LEAST_JUMP_PART),
             pending: None,
             again: None,
+            out: None,
+            left_with: Left::default(),
         }
     }
 
@@ -66,16 +98,19 @@ impl Generator {
         self.timetable
     }
 
-    /// One request, damaged or with some aim; the larger T that a desk asks comes first, and then
-    /// mostly an aim that waits for its block.
+    /// One request, damaged or with some aim; the larger T that a desk asks comes first, then an id
+    /// that was left out returns, and then mostly an aim that waits for its block.
     fn make(&mut self) -> Vec<u8> {
         if let Some(raised) = self.raised() {
             return raised;
         }
+        if let Some((id, period)) = self.out.take() {
+            return self.back(id, period);
+        }
         if let Some(aim) = self.pending.filter(|_| self.random.chance(3, 4)) {
             return self.aimed(aim);
         }
-        match self.random.below(100) {
+        match self.random.below(112) {
             0..=26 => {
                 let request = self.any_change();
                 let fields = self.fields(&request);
@@ -91,8 +126,57 @@ impl Generator {
             81..=88 => self.aimed(Aim::Behind),
             89..=90 => self.aimed(Aim::Exhausted),
             91..=94 => self.aimed(Aim::Missed(0, 0)),
-            _ => self.aimed(Aim::Missed(1, LONGEST_TRANSITION as u64 - 1)),
+            95..=99 => self.aimed(Aim::Missed(1, LONGEST_TRANSITION as u64 - 1)),
+            100..=104 => self.as_there(),
+            105..=108 => self.aimed(Aim::Kept),
+            109 => self.left_out(),
+            _ => self.returned(),
         }
+    }
+
+    /// Exactly what is listed, by short fields.
+    fn as_there(&mut self) -> Vec<u8> {
+        let listing = self.timetable.listing();
+        let request = self.request(listing);
+        self.short(&request)
+    }
+
+    /// What is listed without one of those with R above 1, which is to return at once.
+    fn left_out(&mut self) -> Vec<u8> {
+        let mut listing = self.timetable.listing();
+        let wide = listed(&listing).filter(|(_, share)| share.bound > 1);
+        let wide: Vec<(usize, u16)> = wide.map(|(id, share)| (id, share.period)).collect();
+        self.out = self.random.pick(&wide);
+        if let Some((id, _)) = self.out {
+            listing[id] = None;
+        }
+        let request = self.request(listing);
+        self.short(&request)
+    }
+
+    /// An id that was left out is asked for again by a short field, mostly for the same slot.
+    fn back(&mut self, id: usize, period: u16) -> Vec<u8> {
+        let mut listing = self.timetable.listing();
+        listing[id].get_or_insert(Share { period, bound: 1 });
+        let mut request = self.request(listing);
+        if self.random.chance(3, 4) {
+            request.slot = self.timetable.base.min(LAST_SLOT);
+        }
+        self.short(&request)
+    }
+
+    /// Some that left with R above 1 are asked for again by short fields, beside what is listed.
+    fn returned(&mut self) -> Vec<u8> {
+        let mut listing = self.timetable.listing();
+        for id in (0..IDS).filter(|&id| self.left_with.slot(id).is_some()) {
+            if self.random.chance(1, 3) {
+                let k = self.random.between(2, u64::from(LARGEST_EXPONENT));
+                listing[id] = Some(Share { period: 1 << k, bound: 1 });
+            }
+        }
+        self.fit(&mut listing);
+        let request = self.request(listing);
+        self.short(&request)
     }
 
     /// What the desk asks after a refusal for want of a schedule: the same with a larger T.
@@ -116,22 +200,23 @@ impl Generator {
     fn aimed(&mut self, aim: Aim) -> Vec<u8> {
         for _ in 0..CANDIDATES {
             let mut request = self.candidate(aim);
-            if meets(aim, &self.outcome(&request)) {
+            if self.meets(aim, &request) {
                 self.tighten(&mut request);
                 self.pending = None;
-                return self.record(&request);
+                return if aim == Aim::Kept { self.short(&request) } else { self.record(&request) };
             }
         }
         self.unmet(aim)
     }
 
     /// An aim that is not met waits for the block that is asked for now, unless it has waited
-    /// already; 11 waits for its pair.
+    /// already; 11 waits for its pair, and shares with R above 1 come before what they are kept for.
     fn unmet(&mut self, aim: Aim) -> Vec<u8> {
         let waited = self.pending.take().is_some();
         let listing = match aim {
             _ if waited => self.full_core(),
             Aim::Exhausted => self.pair(),
+            Aim::Kept => self.wide_core(),
             _ => self.block(),
         };
         self.pending = Some(aim).filter(|_| !waited);
@@ -175,16 +260,33 @@ impl Generator {
     }
 
     /// A candidate suited to an aim: 8 needs lowered bounds, 11 a full core, transitions newcomers;
-    /// for a missed slot several are pressed, half the time.
+    /// for a missed slot several are pressed, half the time; a bound that is kept needs what is there.
     fn candidate(&mut self, aim: Aim) -> Request {
         match aim {
             Aim::Any => self.any_change(),
             Aim::Behind => self.lowered_bounds(),
             Aim::Exhausted => self.filled(),
+            Aim::Kept => self.kept_bounds(),
             Aim::Missed(..) if self.random.chance(1, 2) => self.pressed(),
             _ if self.random.chance(1, 3) => self.any_change(),
             _ => self.newcomers(),
         }
+    }
+
+    /// What is listed with every bound as it is, as it stands or with a newcomer, mostly where some
+    /// shortfall is high.
+    fn kept_bounds(&mut self) -> Request {
+        let mut listing = self.timetable.listing();
+        if self.random.chance(2, 3) {
+            let bound = self.bound();
+            self.add(&mut listing, bound);
+            self.fit(&mut listing);
+        }
+        let mut request = self.request(listing);
+        if self.random.chance(3, 4) {
+            request.slot = self.slot_before_slices();
+        }
+        request
     }
 
     /// A change near the present listing, one to three alterations away.
@@ -353,6 +455,15 @@ impl Generator {
         listing
     }
 
+    /// The same with R above 1 for each, so that shortfalls may grow.
+    fn wide_core(&mut self) -> Listing {
+        let mut listing = self.full_core();
+        for share in listing.iter_mut().flatten() {
+            share.bound = self.random.between(2, u64::from(LARGEST_BOUND)) as u8;
+        }
+        listing
+    }
+
     /// Weights that sum to a little above 256, mostly from a full core.
     fn overfull(&mut self) -> Vec<u8> {
         let mut listing = self.timetable.listing();
@@ -463,6 +574,39 @@ impl Generator {
         base.saturating_add(step).min(LAST_SLOT)
     }
 
+    /// An aim is met by its number, and by a length or a missed slot in its range; or by what R 1
+    /// would bring.
+    fn meets(&self, aim: Aim, request: &Request) -> bool {
+        let outcome = self.outcome(request);
+        match aim {
+            Aim::Any => true,
+            Aim::Behind => outcome.number == SHORTFALL_TOO_LARGE,
+            Aim::Exhausted => outcome.number == LENGTHS_EXHAUSTED,
+            Aim::Missed(first, last) => {
+                outcome.number == SLOT_MISSED && (first..=last).contains(&outcome.place)
+            }
+            Aim::Length(first, last) => {
+                outcome.number == ACCEPTED && (first..=last).contains(&outcome.timetable.length)
+            }
+            Aim::Kept => {
+                let with_one = self.outcome(&self.with_one(request));
+                (outcome.number, with_one.number) == (ACCEPTED, SHORTFALL_TOO_LARGE)
+            }
+        }
+    }
+
+    /// A request with R 1 in place of each R that is as before.
+    fn with_one(&self, request: &Request) -> Request {
+        let mut request = *request;
+        for (id, share) in request.listing.iter_mut().enumerate() {
+            let as_before = |share: &&mut Share| share.bound == bound_before(&self.timetable, id);
+            if let Some(share) = share.as_mut().filter(as_before) {
+                share.bound = 1;
+            }
+        }
+        request
+    }
+
     /// The record of a request, with some short fields where R is as before.
     fn record(&mut self, request: &Request) -> Vec<u8> {
         self.fields(request).concat()
@@ -470,13 +614,26 @@ impl Generator {
 
     /// The fields of a request one by one, some short where R is as before.
     fn fields(&mut self, request: &Request) -> Vec<Vec<u8>> {
+        let part = if self.random.chance(1, 4) { 3 } else { 1 };
+        self.fields_short(request, part)
+    }
+
+    /// The record of a request, with a short field wherever R is as before.
+    fn short(&mut self, request: &Request) -> Vec<u8> {
+        self.fields_short(request, 3).concat()
+    }
+
+    /// The fields of a request one by one, so many of three short where R is as before.
+    fn fields_short(&mut self, request: &Request, part: u64) -> Vec<Vec<u8>> {
         let mut fields = vec![slot_field(request.slot), longest_field(request.longest)];
-        let all_short = self.random.chance(1, 4);
         for (id, share) in listed(&request.listing) {
-            let short = all_short || self.random.chance(1, 3);
             let as_before = share.bound == bound_before(&self.timetable, id);
-            let bound = Some(share.bound).filter(|_| !(short && as_before));
-            fields.push(share_field(id as u8, exponent(share), bound));
+            let short = self.random.chance(part, 3) && as_before;
+            fields.push(share_field(
+                id as u8,
+                exponent(share),
+                Some(share.bound).filter(|_| !short),
+            ));
         }
         fields
     }
@@ -493,6 +650,7 @@ impl Iterator for Generator {
         let request = self.make();
         self.left -= 1;
         let outcome = change(&self.timetable, &request, &mut [0; AREA]);
+        self.left_with.follow(&self.timetable, &outcome.timetable);
         self.timetable = outcome.timetable;
         let asked_again = match outcome.number {
             LENGTHS_EXHAUSTED => self.random.chance(3, 4),
@@ -501,21 +659,6 @@ impl Iterator for Generator {
         };
         self.again = asked_again.then(|| request.clone());
         Some(request)
-    }
-}
-
-/// An aim is met by its number, and by a length or a missed slot in its range.
-fn meets(aim: Aim, outcome: &Outcome) -> bool {
-    match aim {
-        Aim::Any => true,
-        Aim::Behind => outcome.number == SHORTFALL_TOO_LARGE,
-        Aim::Exhausted => outcome.number == LENGTHS_EXHAUSTED,
-        Aim::Missed(first, last) => {
-            outcome.number == SLOT_MISSED && (first..=last).contains(&outcome.place)
-        }
-        Aim::Length(first, last) => {
-            outcome.number == ACCEPTED && (first..=last).contains(&outcome.timetable.length)
-        }
     }
 }
 

@@ -22,6 +22,7 @@ pub mod probes;
 pub mod queries;
 pub mod random;
 pub mod records;
+pub mod short_counts;
 pub mod timetable;
 
 mod archived;
