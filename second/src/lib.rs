@@ -38,6 +38,8 @@ mod worked;
 #[cfg(test)]
 mod archives_tests;
 #[cfg(test)]
+mod as_before;
+#[cfg(test)]
 mod figures_tests;
 #[cfg(test)]
 mod probe_tests;

@@ -1,12 +1,13 @@
 //! Demand 3 (docs/RULES.md 1.6) by brute force: runs are recorded slot by slot and all their
 //! windows are looked at, each length tried is held against a search through all choices of
-//! offsets, and each refusal for want of a schedule against these and whoever may get a slot.
+//! offsets, and each refusal for want of a schedule against these and whoever may get a slot. The R
+//! of a short field is the one that the requests before, as they were read, gave the id last.
 
 use crate::change::{change, listed, Outcome, Request, AREA};
 use crate::generate::Generator;
 use crate::queries::{owner_query, standing_query};
 use crate::random::Random;
-use crate::records::{longest_field, read_request, share_field, slot_field};
+use crate::records::{longest_field, read_request, share_field, slot_field, Ask, ReadRequest};
 use crate::slots::Shortfalls;
 use crate::timetable::{Listing, Share, Timetable, IDLE, IDS};
 use std::collections::BTreeSet;
@@ -22,17 +23,32 @@ struct Slot {
     since: [usize; IDS],
 }
 
-/// A run of a controller from the empty timetable, recorded slot by slot up to some slot.
+/// A run of a controller from the empty timetable, recorded slot by slot up to some slot, and what
+/// the request accepted last asked for.
 struct Run {
     slots: Vec<Slot>,
     timetable: Timetable,
     since: [usize; IDS],
+    asked: Listing,
 }
 
 impl Run {
     /// The run of an empty controller before its first slot.
     fn empty() -> Run {
-        Run { slots: Vec::new(), timetable: Timetable::empty(), since: [0; IDS] }
+        let timetable = Timetable::empty();
+        Run { slots: Vec::new(), timetable, since: [0; IDS], asked: [None; IDS] }
+    }
+
+    /// What a request asks for each id: by a short field the R asked for last, unless the id was left
+    /// out since or never asked for; then it is 1.
+    fn in_full(&self, read: &ReadRequest) -> Request {
+        let mut listing = [None; IDS];
+        for (id, ask) in read.asks.iter().enumerate() {
+            let Some(Ask { period, bound }) = *ask else { continue };
+            let last = self.asked[id].map_or(1, |share| share.bound);
+            listing[id] = Some(Share { period, bound: bound.unwrap_or(last) });
+        }
+        Request { slot: read.slot, longest: read.longest, listing }
     }
 
     /// The slots before the given one are recorded, as the owner query names their owners.
@@ -57,6 +73,9 @@ impl Run {
                 }
             }
             self.timetable = outcome.timetable;
+            self.asked =
+                read_request(record).map_or([None; IDS], |read| self.in_full(&read).listing);
+            assert_eq!(self.timetable.listing(), self.asked);
         }
         outcome
     }
@@ -222,20 +241,38 @@ fn reached(request: &Request, at_request: Shortfalls) -> Vec<Reached> {
 }
 
 /// What was seen while requests were checked: 9 at place 0 and above; 11 where slot T would not be
-/// missed, and where it would.
+/// missed, and where it would; short fields of ids not listed, listed with R 1, and with R above 1.
 #[derive(Debug)]
 struct Seen {
     lengths: [u32; 65],
     behind: u32,
     missed: [u32; 2],
     exhausted: [u32; 2],
+    short: [u32; 3],
     windows: u64,
 }
 
 impl Seen {
     /// Nothing was seen so far.
     fn nothing() -> Seen {
-        Seen { lengths: [0; 65], behind: 0, missed: [0; 2], exhausted: [0; 2], windows: 0 }
+        Seen {
+            lengths: [0; 65],
+            behind: 0,
+            missed: [0; 2],
+            exhausted: [0; 2],
+            short: [0; 3],
+            windows: 0,
+        }
+    }
+
+    /// A request's short fields are counted by what their ids were asked for last.
+    fn count_short(&mut self, run: &Run, read: &ReadRequest) {
+        for (ask, asked) in read.asks.iter().zip(run.asked) {
+            if ask.is_some_and(|ask| ask.bound.is_none()) {
+                let class = asked.map_or(0, |share| if share.bound == 1 { 1 } else { 2 });
+                self.short[class] += 1;
+            }
+        }
     }
 }
 
@@ -376,11 +413,12 @@ fn small_block(random: &mut Random) -> Listing {
 }
 
 /// The record of a request.
-fn record_of(request: &Request) -> Vec<u8> {
+fn record_of(request: &ReadRequest) -> Vec<u8> {
     let mut record = [slot_field(request.slot), longest_field(request.longest)].concat();
-    for (id, share) in listed(&request.listing) {
-        let k = (0..=8).find(|k| share.period == 1 << k).unwrap_or(0);
-        record.extend(share_field(id as u8, k, Some(share.bound)));
+    for (id, ask) in request.asks.iter().enumerate() {
+        let Some(Ask { period, bound }) = *ask else { continue };
+        let k = (0..=8).find(|k| period == 1 << k).unwrap_or(0);
+        record.extend(share_field(id as u8, k, bound));
     }
     record
 }
@@ -402,8 +440,8 @@ fn small_bounds(present: &Listing) -> Listing {
     present.map(|share| share.map(|share| Share { bound: (share.bound - 1).max(1), ..share }))
 }
 
-/// A request for a run, of one of several shapes.
-fn small_candidate(random: &mut Random, run: &Run) -> Request {
+/// A request for a run, of one of several shapes, some with short fields among the others.
+fn small_candidate(random: &mut Random, run: &Run) -> ReadRequest {
     let present = run.timetable.listing();
     let listing = match random.below(10) {
         0 => small_block(random),
@@ -414,12 +452,17 @@ fn small_candidate(random: &mut Random, run: &Run) -> Request {
     let most = random.pick(&[0, 3, 17]).unwrap_or(0);
     let slot = run.timetable.base + random.between(0, most);
     let longest = random.pick(&[0, 1, 2, 5, 64, 64, 64]).unwrap_or(0);
-    Request { slot, longest, listing }
+    let short = random.pick(&[0, 0, 1, 4]).unwrap_or(0);
+    let asks = listing.map(|share| {
+        let Share { period, bound } = share?;
+        Some(Ask { period, bound: Some(bound).filter(|_| !random.chance(short, 4)) })
+    });
+    ReadRequest { slot, longest, asks }
 }
 
 /// A request for a run: any, or the one of many with the most tries. A refusal 8 is counted as two,
 /// and a slot missed at once as four.
-fn small_request(random: &mut Random, run: &Run) -> Request {
+fn small_request(random: &mut Random, run: &Run) -> ReadRequest {
     let mut best = small_candidate(random, run);
     let mut most = 0;
     for _ in 0..random.pick(&[0, 30, 30, 30]).unwrap_or(0) {
@@ -445,7 +488,8 @@ fn check_history(seed: u64, seen: &mut Seen) {
         let request = small_request(&mut random, &run);
         run.record_to(request.slot as usize);
         let outcome = change(&run.timetable, &record_of(&request), &mut [0; AREA]);
-        check_outcome(&run, &request, &outcome, seen);
+        seen.count_short(&run, &request);
+        check_outcome(&run, &run.in_full(&request), &outcome, seen);
         assert_eq!(run.put(&record_of(&request)), outcome);
     }
     run.record_to(run.timetable.base as usize + 40);
@@ -464,6 +508,7 @@ fn histories_on_small_cores() {
     assert!(seen.lengths[0] > 1000 && seen.lengths[1] > 300 && longer > 200, "{seen:?}");
     assert!(seen.behind > 100 && seen.missed.iter().all(|&times| times > 50), "{seen:?}");
     assert!(seen.exhausted.iter().all(|&times| times > 50), "{seen:?}");
+    assert!(seen.short.iter().all(|&times| times > 1000), "{seen:?}");
 }
 
 /// The generator's own streams, with their long transitions, keep all windows of their first slots.
