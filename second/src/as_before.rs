@@ -412,9 +412,9 @@ fn what_is_there_is_granted() {
         check_slots(&mut random, &timetable, &mut seen);
     }
     println!("{seen:?}");
-    assert!(seen.at_base >= 2000 && seen.near >= 10_000 && seen.far >= 2000, "{seen:?}");
+    assert!(seen.at_base >= 2000 && seen.near >= 30_000 && seen.far >= 2000, "{seen:?}");
     assert!(seen.highest >= 2000 && seen.full_core >= 5000, "{seen:?}");
-    assert!(seen.above_one >= 10_000 && seen.refused_with_one >= 1000, "{seen:?}");
+    assert!(seen.above_one >= 30_000 && seen.refused_with_one >= 20_000, "{seen:?}");
 }
 
 /// The stored stream of requests has so many short fields of each kind that a wrong R shows.

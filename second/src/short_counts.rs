@@ -18,11 +18,11 @@ const IDS_OF: [&str; 5] = [
 ];
 /// The classes of requests by their fields.
 const FIELDS: [&str; 5] = [
-    "exactly what is listed, all short",
-    "all short",
-    "short ones, of R above 1 too, and full ones",
-    "short ones and full ones",
-    "all in full, or none",
+    "all short: exactly what is listed",
+    "all short: another listing",
+    "short and full, a short one of R above 1",
+    "short and full, no short one of R above 1",
+    "no short one",
 ];
 /// The numbers of requests that are read and not too early.
 const ANSWERS: [u8; 5] = [ACCEPTED, OVERFULL, SHORTFALL_TOO_LARGE, SLOT_MISSED, LENGTHS_EXHAUSTED];
