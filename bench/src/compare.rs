@@ -35,6 +35,32 @@ pub fn changes(inputs: &[Input]) -> Agreed {
     Ok(3 * inputs.len())
 }
 
+/// Changes with short fields in place of some full ones and of all, which ask the R as before.
+pub fn short_fields(seed: u64, inputs: &[Input]) -> Agreed {
+    let mut random = Random::new(seed);
+    for input in inputs {
+        for percent in [50, 100] {
+            let record = shortened(&mut random, &input.record, percent);
+            same_change(&input.image, &record, AREA)?;
+        }
+    }
+    Ok(2 * inputs.len())
+}
+
+/// A request whose fields are in full, with so many of a hundred short.
+fn shortened(random: &mut Random, record: &[u8], percent: u64) -> Vec<u8> {
+    let (head, fields) = record.split_at(15);
+    let mut short = head.to_vec();
+    for field in fields.chunks_exact(6) {
+        if random.percent(percent) {
+            short.extend([3, 0, 2, field[3], field[4]]);
+        } else {
+            short.extend(field);
+        }
+    }
+    short
+}
+
 /// Changes and queries on images with bytes changed, most of them not sound, and of other lengths.
 pub fn damaged(seed: u64, inputs: &[Input]) -> Agreed {
     let mut random = Random::new(seed);

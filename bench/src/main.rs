@@ -115,6 +115,7 @@ fn compare_calls(
     let mut calls = compare::empty()?;
     for inputs in [&inputs.source, &inputs.exhausted, &inputs.found] {
         calls += compare::changes(inputs)? + compare::damaged(seed, inputs)?;
+        calls += compare::short_fields(seed, inputs)?;
     }
     for row in asked {
         calls += compare::queries(&row.queries)?;

@@ -2,7 +2,7 @@
 
 use crate::entry::Entry;
 use crate::number::{ACCEPTED, BEHIND, NOT_SOUND, OVERFULL, SMALL_AREA, TOO_EARLY};
-use crate::records::{read_request, write_answer, Ask, Request};
+use crate::records::{read_request, write_answer, Request};
 use crate::search::{search, Listed, Searched};
 use crate::timetable::{Timetable, AREA, IDS, WHOLE};
 use crate::Refusal;
@@ -80,10 +80,11 @@ fn entering<'a>(
             return Err(Refusal::at(OVERFULL, id));
         }
         let shortfall = if old.is_listed() { old.shortfall_after(elapsed) } else { 0 };
-        if shortfall >= WHOLE * u16::from(ask.bound) {
+        let bound = if ask.bound == 0 { old.bound_before() } else { ask.bound };
+        if shortfall >= WHOLE * u16::from(bound) {
             behind = behind.or(Some(id));
         }
-        let Ask { period, bound } = *ask;
+        let period = ask.period;
         room[count] = Listed { id: id as u8, bound, offset: 0, period, weight, shortfall };
         count += 1;
     }

@@ -17,6 +17,15 @@ impl Entry {
         self.period != 0
     }
 
+    /// The R that a short field asks: the one it is listed with, or 1.
+    pub fn bound_before(&self) -> u8 {
+        if self.is_listed() {
+            self.bound
+        } else {
+            1
+        }
+    }
+
     /// The weight of a listed entry.
     pub fn weight(&self) -> u16 {
         WHOLE / self.period

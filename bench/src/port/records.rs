@@ -8,7 +8,8 @@ use crate::Refusal;
 /// The bytes before a field's content.
 const HEAD: usize = 3;
 
-/// What a request asks for one id; a period of 0 says that it is not listed.
+/// What a request asks for one id; a period of 0 says that it is not listed, a bound of 0 that its
+/// field is short.
 #[derive(Clone, Copy, Default)]
 pub struct Ask {
     pub period: u16,
@@ -68,14 +69,14 @@ fn read_longest(record: &[u8], at: usize) -> Result<u8, Refusal> {
 
 /// One listed id, what is asked for it, and the place of the next field.
 fn read_listed(record: &[u8], at: usize, floor: u8) -> Result<(u8, Ask, usize), Refusal> {
-    let (id, k, bound, next) = if let Some(content) = content(record, at, 3, 3) {
-        (content[0], content[1], content[2], at + 6)
+    let (id, k, bound, least, next) = if let Some(content) = content(record, at, 3, 3) {
+        (content[0], content[1], content[2], 1, at + 6)
     } else if let Some(content) = content(record, at, 3, 2) {
-        (content[0], content[1], 1, at + 5)
+        (content[0], content[1], 0, 0, at + 5)
     } else {
         return Err(Refusal::at(BAD_FIELD, at));
     };
-    if usize::from(id) >= IDS || k > LARGEST_K || !(1..=LARGEST_BOUND).contains(&bound) {
+    if usize::from(id) >= IDS || k > LARGEST_K || !(least..=LARGEST_BOUND).contains(&bound) {
         return Err(Refusal::at(OUT_OF_RANGE, at));
     }
     if id < floor {
