@@ -1,23 +1,32 @@
 /* What include/tarnflaw.h says, tried: each number and each limit, the order in which functions refuse, the forms of image, schedule, request and answer,
- * reading answers and writing requests, and what soundness does not notice. Compiles as C99 and as C++11. */
+ * what a short field asks, reading answers and writing requests, and what soundness does not notice. Compiles as C99 and as C++11. */
 #include <stdio.h>
 #include <string.h>
 
 #include "tarnflaw.h"
 
-/* The fields of a request: the request slot (below 256 here), T, a partition with its period 2^k and its bound, and one by a short field. */
+/* The fields of a request: the request slot (below 256 here), T, a partition with its period 2^k and its bound, and one whose bound stays as before,
+ * by a short field. */
 #define SLOT(slot) 1, 0, 8, 0, 0, 0, 0, 0, 0, 0, slot
 #define LIMIT(t) 2, 0, 1, t
 #define LIST(id, k, bound) 3, 0, 3, id, k, bound
 #define SHORT(id, k) 3, 0, 2, id, k
-/* What cases B and C list, and what D and E do. */
+/* What cases B and C list, and what D and E do; and what is there after case B, each bound as before. */
 #define LISTED_B LIST(0, 2, 1), SHORT(1, 2), LIST(2, 1, 2)
 #define LISTED_D LIST(0, 2, 1), LIST(1, 2, 1), LIST(2, 1, 1)
+#define LISTED_THERE SHORT(0, 2), SHORT(1, 2), SHORT(2, 1)
 
 static const uint8_t case_a[] = { SLOT(0), LIMIT(0), LIST(0, 2, 1), LIST(1, 2, 1) };
 static const uint8_t case_b[] = { SLOT(6), LIMIT(1), LISTED_B };
 static const uint8_t case_c[] = { SLOT(6), LIMIT(0), LISTED_B };
 static const uint8_t case_d[] = { SLOT(8), LIMIT(0), LISTED_D };
+static const uint8_t case_d_short[] = { SLOT(8), LIMIT(0), LIST(0, 2, 1), LIST(1, 2, 1), SHORT(2, 1) };
+static const uint8_t case_d_full[] = { SLOT(8), LIMIT(0), LIST(0, 2, 1), LIST(1, 2, 1), LIST(2, 1, 2) };
+static const uint8_t there_6[] = { SLOT(6), LIMIT(0), LISTED_THERE };
+static const uint8_t there_7[] = { SLOT(7), LIMIT(0), LISTED_THERE };
+static const uint8_t there_8[] = { SLOT(8), LIMIT(0), LISTED_THERE };
+static const uint8_t there_9[] = { SLOT(9), LIMIT(0), LISTED_THERE };
+static const uint8_t leaves[] = { SLOT(7), LIMIT(0), SHORT(0, 2), SHORT(1, 2) };
 static const uint8_t case_e_2[] = { SLOT(9), LIMIT(2), LISTED_D };
 static const uint8_t case_e_3[] = { SLOT(9), LIMIT(3), LISTED_D };
 static const uint8_t case_e_64[] = { SLOT(9), LIMIT(TARNFLAW_LONGEST), LISTED_D };
@@ -140,6 +149,49 @@ static void show_image(void)
     };
 
     show_parts("image", image, parts, sizeof parts / sizeof parts[0]);
+}
+
+/* Puts a request to an image, and prints what is returned and told, and of the image then its length and each id with its offset and bound. */
+static void change_of(const char *name, const uint8_t *before, const uint8_t *request, size_t request_size)
+{
+    unsigned id;
+
+    memcpy(image, before, TARNFLAW_IMAGE);
+    if (change(name, request, request_size, TARNFLAW_IMAGE, TARNFLAW_AREA) == 0)
+        return;
+    printf("  length %u", image[8]);
+    for (id = 0; id < TARNFLAW_IDS; id++)
+        if (image[84 + 6 * id] > 0)
+            printf("; id %u: offset %u, R %u", id, image[83 + 6 * id], image[84 + 6 * id]);
+    printf("\n");
+}
+
+#define CHANGE_OF(name, before, request) change_of(name, before, request, sizeof(request))
+
+/* Tries short fields on case B's image, which is in force again afterwards: D in full and with a short field; what is there, at several slots; and an
+ * id that leaves and returns. */
+static void show_short(void)
+{
+    uint8_t b[TARNFLAW_IMAGE], by_short[TARNFLAW_IMAGE], answer[TARNFLAW_AREA];
+
+    memcpy(b, image, TARNFLAW_IMAGE);
+    CHANGE_OF("D, R 1 for id 2 in full", b, case_d);
+    CHANGE_OF("D with a short field for id 2", b, case_d_short);
+    memcpy(by_short, image, TARNFLAW_IMAGE);
+    memcpy(answer, area, TARNFLAW_AREA);
+    CHANGE_OF("D, R 2 for id 2 in full", b, case_d_full);
+    printf("by the short field: %s image, %s answer\n", memcmp(by_short, image, TARNFLAW_IMAGE) == 0 ? "the same" : "another",
+           memcmp(answer, area, TARNFLAW_AREA) == 0 ? "the same" : "another");
+
+    CHANGE_OF("what is there, before the base", b, there_6);
+    CHANGE_OF("what is there, at slot 7", b, there_7);
+    CHANGE_OF("what is there, at slot 8", b, there_8);
+    CHANGE_OF("what is there, at slot 9", b, there_9);
+
+    CHANGE_OF("id 2 leaves", b, leaves);
+    memcpy(by_short, image, TARNFLAW_IMAGE);
+    CHANGE_OF("id 2 returns with a short field", by_short, there_7);
+    memcpy(image, b, TARNFLAW_IMAGE);
 }
 
 /* Prints who has slot 7 by an image that is torn: its first bytes, up to the base, of the present image and the others of an older one. */
@@ -356,6 +408,7 @@ int main(void)
     show_image();
     show_torn(older);
     refusals();
+    show_short();
     show_order();
     show_reading(answer, size);
     show_writing();

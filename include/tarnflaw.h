@@ -35,13 +35,17 @@
  *     request slot      01 00 08      8 bytes, at most TARNFLAW_LAST_SLOT
  *     T                 02 00 01      the longest transition allowed, at most TARNFLAW_LONGEST
  *     each listed id,   03 00 03      id (below TARNFLAW_IDS), k (0 to 8; its period is 2^k), R (1 to 8)
- *     ids rising, or    03 00 02      id, k: the short field, which asks R 1
+ *     ids rising, or    03 00 02      id, k: the short field, which asks R as before
  *
  *     answer            tag, length   content
  *     length            10 00 01      transition length
  *     owners            11 00 nn      nn bytes: the owner of each transition slot. The field is there with length 0, too
  *     each listed id,   12 00 02      id, offset
  *     ids rising
+ *
+ * As before is the R with which the image lists the id when the request is put to it, and 1 for an id that it does not list, also for one that has left.
+ * So a request with short fields is exactly the one that gives these R in full, and one whose fields are all short, with the present ids and periods, is
+ * accepted from the base on, with length 0 (docs/RULES.md 1.10 and 1.11). Its offsets may be others. To ask for R 1, or any R, write it in full.
  *
  * Archived answers, and requests from figures
  *
@@ -63,7 +67,7 @@
  *
  *     its size        how many bytes were written. The bytes behind them in the area are not the answer's
  *     a checksum      of its own, since many a damage leaves the form
- *     the request     which has the slot, from which the transition slots count, and the periods
+ *     the request     which has the slot, from which the transition slots count, and the periods. (The R of a short field is in the requests before it)
  *     the version     TARNFLAW_VERSION of the firmware that wrote it
  *
  * What to do with a 3 of the reader, and with a 2, 4 or 5 of the writer, stands in docs/DICTIONARY.md: "What a 3 tells the archive" and "Writing a
@@ -115,6 +119,17 @@
  *                     saves all that are named there
  *     constants       there were none, and there are some now (the same place): a linker script that placed the code alone places .rodata too
  *     memset          tarnflaw_read_answer calls it: what links the archive has memset besides memcpy
+ *
+ * From version 3 to version 4
+ *
+ * Exchange the header and the archive together. Functions, numbers and the forms of records and images are those of version 3, and images mean what they
+ * meant, so stored ones go on. But a request with short fields has another meaning: up to version 3 a short field asked R 1 of every id. Look at:
+ *
+ *     short fields    Where they were sent to ask R 1 of an id that the image lists with a larger R, write R 1 in full now. Where the id has R 1, or is
+ *                     not listed, nothing moves; nor does a request in full, as tarnflaw_write_request has always written it
+ *     refusals        What was refused 8, 9 or 11 because of that R 1 may be accepted now. No 8 names an id whose field is short
+ *     acceptances     Such an id keeps its larger R, and so may fall further behind than before. Transition and offsets may be others, too
+ *     logs            4 is the version from now on. It tells how a logged request with short fields is read (docs/DICTIONARY.md, "Earlier meanings")
  *
  * Calls that overlap
  *
@@ -205,7 +220,7 @@
 extern "C" {
 #endif
 
-#define TARNFLAW_VERSION 3                   /* the version of the library, to be logged with an answer */
+#define TARNFLAW_VERSION 4                   /* the version of the library, to be logged with an answer */
 #define TARNFLAW_IMAGE_VERSION 1             /* the first version whose images mean what they mean today, to be stored beside an image */
 #define TARNFLAW_IMAGE 273                   /* bytes of an image */
 #define TARNFLAW_REQUEST 207                 /* bytes that a request has at most */
@@ -321,7 +336,7 @@ uint8_t tarnflaw_read_answer(const uint8_t *answer, size_t answer_size,
  *     written                 told: the bytes of the request; 0 on a refusal
  *
  * 4 is told for a value out of range and for a listing that ends within an entry, 5 for an id that is not above the one before. A request that is
- * written is read by tarnflaw_change as the same slot, T and listing; whether it is accepted is another thing.
+ * written is read by tarnflaw_change as the same slot, T and listing, on any image; whether it is accepted is another thing.
  * Refuses 4 (slot), then 4 (T), then 4 or 5 (entry by entry), then 2 (area shorter than the request). */
 uint8_t tarnflaw_write_request(uint64_t slot, uint8_t limit,
                                const uint8_t *listing, size_t listing_size,
