@@ -1,6 +1,6 @@
 /* The library as a firmware uses it: a dispatcher beside a task that changes the timetable by cases A, C and E (docs/RULES.md 11.A, 11.C and 11.E),
- * where C with the longest T is answered as B is; an answer that is archived and read; and a stored image at a start. The interrupts are plain calls
- * here. See include/tarnflaw.h. Compiles as C99 and as C++11. */
+ * where C with the longest T is answered as B is, and by a request that the method software sent; an answer that is archived and read; and a stored
+ * image at a start. The interrupts are plain calls here. See include/tarnflaw.h. Compiles as C99 and as C++11. */
 #include <signal.h>
 #include <stdio.h>
 #include <string.h>
@@ -12,6 +12,10 @@ static const uint8_t listed_a[] = { 0, 2, 1, 1, 2, 1 };
 static const uint8_t listed_c[] = { 0, 2, 1, 1, 2, 1, 2, 1, 2 };
 static const uint8_t listed_e[] = { 0, 2, 1, 1, 2, 1, 2, 1, 1 };
 static const uint8_t listed_twice[] = { 0, 2, 1, 1, 2, 1, 1, 2, 1 };
+
+/* A request as the method software sends it: from slot 10 on id 1 is to have half its share, one slot in 8 with R 1. Ids 0 and 2 it doesn't touch, and
+ * need not know their R: their fields are short, and ask R as before. */
+static const uint8_t half_share[] = { 1, 0, 8, 0, 0, 0, 0, 0, 0, 0, 10, 2, 0, 1, 0, 3, 0, 2, 0, 2, 3, 0, 3, 1, 3, 1, 3, 0, 2, 2, 1 };
 
 /* Two images. The task writes the one that is not in force, unless it waits; the dispatcher takes it over at its request slot. */
 enum { TAKEN, WAITING, LATE };
@@ -80,19 +84,14 @@ static void print_archived(void)
     printf("\n");
 }
 
-/* Writes a request, asks for the change of an image, and keeps the answer. Prints what is returned and told. Returns the number. */
-static uint8_t ask(const char *name, uint8_t *image, uint64_t slot, uint8_t limit, const uint8_t *listed, size_t listed_size)
+/* Asks for the change of an image by a request, and keeps the answer. Prints what is returned and told. Returns the number. */
+static uint8_t ask(const char *name, uint8_t *image, const uint8_t *request, size_t request_size)
 {
-    uint8_t request[TARNFLAW_REQUEST], area[TARNFLAW_AREA];
-    size_t place, size, written;
+    uint8_t area[TARNFLAW_AREA];
+    size_t place, written;
     uint8_t tries;
-    uint8_t number = tarnflaw_write_request(slot, limit, listed, listed_size, request, sizeof request, &place, &size);
+    const uint8_t number = tarnflaw_change(image, TARNFLAW_IMAGE, request, request_size, area, sizeof area, &place, &tries, &written);
 
-    if (number != TARNFLAW_ACCEPTED) {
-        printf("%s: no request, %u, place %zu\n", name, number, place);
-        return number;
-    }
-    number = tarnflaw_change(image, TARNFLAW_IMAGE, request, size, area, sizeof area, &place, &tries, &written);
     printf("%s: %u, place %zu, tries %u, %zu bytes\n", name, number, place, tries, written);
     if (number == TARNFLAW_ACCEPTED) {
         memcpy(archived, area, written);
@@ -102,11 +101,12 @@ static uint8_t ask(const char *name, uint8_t *image, uint64_t slot, uint8_t limi
     return number;
 }
 
-/* The task's change, on a copy of the image in force. If all lengths up to T were searched in vain, it asks once more, with the longest T. (A firmware
- * that can't bear so long a transition has a limit of its own.) If a slot is missed, no T helps. If the change is accepted, the copy waits for its
- * request slot. */
-static void change(const char *name, uint64_t slot, uint8_t limit, const uint8_t *listed, size_t listed_size)
+/* The task's change by a request, on a copy of the image in force. If all lengths up to T were searched in vain, it asks once more, with the longest T,
+ * which is byte 14. (A firmware that can't bear so long a transition has a limit of its own.) If a slot is missed, no T helps. If the change is
+ * accepted, the copy waits for its request slot. */
+static void change_by(const char *name, const uint8_t *request, size_t request_size)
 {
+    uint8_t longer[TARNFLAW_REQUEST];
     uint8_t number;
     int next;
 
@@ -116,13 +116,42 @@ static void change(const char *name, uint64_t slot, uint8_t limit, const uint8_t
     }
     next = !in_force; /* not before: until here the dispatcher may have stored it */
     memcpy(images[next], images[in_force], TARNFLAW_IMAGE);
-    number = ask(name, images[next], slot, limit, listed, listed_size);
-    if (number == TARNFLAW_LENGTHS_EXHAUSTED && limit < TARNFLAW_LONGEST)
-        number = ask("the same with the longest T", images[next], slot, TARNFLAW_LONGEST, listed, listed_size);
+    number = ask(name, images[next], request, request_size);
+    if (number == TARNFLAW_LENGTHS_EXHAUSTED && request[14] < TARNFLAW_LONGEST) {
+        memcpy(longer, request, request_size); /* it was read, so it is no longer than that */
+        longer[14] = TARNFLAW_LONGEST;
+        number = ask("the same with the longest T", images[next], longer, request_size);
+    }
     if (number == TARNFLAW_SLOT_MISSED || number == TARNFLAW_LENGTHS_EXHAUSTED)
         printf("no T helps: a later slot, a larger R or a smaller share may\n");
     if (number == TARNFLAW_ACCEPTED)
         copy = WAITING;
+}
+
+/* The task's change to a listing: the request is written, with each R in full. */
+static void change(const char *name, uint64_t slot, uint8_t limit, const uint8_t *listed, size_t listed_size)
+{
+    uint8_t request[TARNFLAW_REQUEST];
+    size_t place, size;
+    const uint8_t number = tarnflaw_write_request(slot, limit, listed, listed_size, request, sizeof request, &place, &size);
+
+    if (number == TARNFLAW_ACCEPTED)
+        change_by(name, request, size);
+    else
+        printf("%s: no request, %u, place %zu\n", name, number, place);
+}
+
+/* Prints the ids that the image in force lists, each with its R, and its request slot. */
+static void print_bounds(void)
+{
+    const uint8_t *image = images[in_force];
+    unsigned id;
+
+    printf("in force:");
+    for (id = 0; id < TARNFLAW_IDS; id++)
+        if (image[84 + 6 * id] > 0)
+            printf(" id %u with R %u,", id, image[84 + 6 * id]);
+    printf(" from slot %u on\n", (unsigned)request_slot(image));
 }
 
 /* Reads the archived answer whole, and prints what it says of the transition and how many ids it lists, or why it is refused. */
@@ -247,10 +276,14 @@ int main(void)
     s.slot = 9;
     s.sum = sum_of(&s);
 
-    change("id 2 leaves, for slot 8, which has begun", 8, 0, listed_a, sizeof listed_a);
+    print_bounds();
+    change_by("id 1 has half its share, for slot 10", half_share, sizeof half_share);
     run(9, 10);
-    change("once more, for slot 12", 12, 0, listed_a, sizeof listed_a);
-    run(11, 15);
+    print_bounds();
+    change("id 2 leaves, for slot 10, which has begun", 10, 0, listed_a, sizeof listed_a);
+    run(11, 12);
+    change("once more, for slot 14", 14, 0, listed_a, sizeof listed_a);
+    run(13, 17);
     starts(&s);
     return 0;
 }
