@@ -14,8 +14,8 @@ use crate::timetable::{
     IDS, LARGEST_BOUND, LARGEST_EXPONENT, LAST_SLOT, LONGEST_TRANSITION as LONGEST,
 };
 use crate::worked::{
-    answer_b, asked, asked_b, asking_b, bytes_b, bytes_with, ids, share, slots_from_records,
-    DETECTOR, PUMP_LOOP, VALVE,
+    answer_b, asked_b, asking_b, bytes_b, bytes_with, ids, share, slots_from_records, DETECTOR,
+    PUMP_LOOP, VALVE,
 };
 
 /// The figures of each part.
@@ -569,17 +569,12 @@ fn add_indexes(figures: &mut Figures) {
 /// "Writing a request": the short field, which is never written.
 fn add_short(figures: &mut Figures) {
     let [id, k, bound] = [0, 1, 2].map(|byte| asking_b().listing[byte]);
-    let short = share_field(id, k, None);
-    let request = [slot_field(0), longest_field(0), short.clone()].concat();
-    let asks = share(&asked(&request).listing, id).bound;
-    let head = hexadecimal(&short[..HEAD]);
-    let same = format!("a field with R {bound} asks the same");
-    figures
-        .phrase(WRITING, format!("The short field `{head} id k` asks R {asks} today, and {same}"));
+    let head = hexadecimal(&share_field(id, k, None)[..HEAD]);
+    figures.phrase(WRITING, format!("The short field `{head} id k` does not"));
     let none = written(&with_entry(usize::from(id), 2, 0), longest_request()).0;
     let refused = if none == ACCEPTED { "written" } else { "refused" };
-    let third = format!("gives {asks} as the third byte, not 0, which is {refused}");
-    figures.phrase(WRITING, format!("A script that wants R {asks} {third}"));
+    let third = format!("gives {bound} as the third byte, not 0, which is {refused}");
+    figures.phrase(WRITING, format!("One that wants R {bound} {third}"));
 }
 
 /// "Earlier meanings": the numbers that come from reading and writing too.

@@ -7,9 +7,7 @@ use crate::figures::{aligned, hexadecimal, in_turn, list, list_and, list_with, F
 use crate::frames::frame;
 use crate::numbers;
 use crate::queries::standing_query;
-use crate::records::{
-    longest_field, share_field, slot_field, with_longest, HEAD, TAG_LONGEST, TAG_SHARE, TAG_SLOT,
-};
+use crate::records::{share_field, with_longest, HEAD, TAG_LONGEST, TAG_SHARE, TAG_SLOT};
 use crate::run::Run;
 use crate::timetable::{
     Listing, Share, CYCLE, IDLE, LARGEST_BOUND, LARGEST_EXPONENT, LONGEST_TRANSITION,
@@ -146,10 +144,8 @@ fn add_bytes_asked(figures: &mut Figures) {
     let Share { period, bound } = share(&asked_b().listing, PUMP_LOOP);
     let field = |bound| share_field(PUMP_LOOP, period.trailing_zeros() as u8, bound);
     let (short, full) = (field(None), field(Some(bound)));
-    let request = [slot_field(0), longest_field(0), short.clone()].concat();
-    let asks = share(&asked(&request).listing, PUMP_LOOP).bound;
     let head = |field: &[u8]| hexadecimal(&field[..HEAD]);
-    figures.phrase(RAISING, format!("a short field `{} id k`, which asks R {asks}", head(&short)));
+    figures.phrase(RAISING, format!("a short field `{} id k`, which asks R as", head(&short)));
     let grows = frame(&full).len() - frame(&short).len();
     let full = format!("becomes `{} id k R`", head(&full));
     figures.phrase(RAISING, format!("{full}, and the frame's length grows by {grows}"));

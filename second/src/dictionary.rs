@@ -1,7 +1,9 @@
 //! The figures of docs/DICTIONARY.md, section by section.
 
 use crate::archived;
-use crate::cases::{all_listed, record, request_a, request_b, request_d, request_j_overfull};
+use crate::cases::{
+    all_listed, record, request_a, request_b, request_d, request_j_overfull, request_short,
+};
 use crate::change::{Outcome, AREA};
 use crate::desk;
 use crate::figures::{aligned, code, in_turn, list, list_and, thousands, Figures};
@@ -19,6 +21,7 @@ use crate::timetable::{
     Share, Timetable, CYCLE, IDLE, IDS, LARGEST_BOUND, LARGEST_EXPONENT, LAST_SLOT,
     LONGEST_TRANSITION,
 };
+use crate::untouched;
 use crate::worked::{
     anew, answer_b, answer_c, answer_e, answered, around_e, asked, asked_a, asked_b, asked_e,
     bound, by_t_e, bytes_b, bytes_c, bytes_e, ids, least_room, left_and_returned, limit_of,
@@ -55,6 +58,7 @@ pub fn add_to(figures: &mut Figures) {
     desk::add_to(figures);
     add_queries(figures);
     archived::add_to(figures);
+    untouched::add_to(figures);
     add_line(figures);
 }
 
@@ -495,7 +499,7 @@ fn add_request(figures: &mut Figures) {
             format!("T, the longest transition allowed | 0 to {LONGEST_TRANSITION}"),
         ),
         (full, format!("id, k, R; ids rise | {ranges}")),
-        (short, format!("id, k; R is 1 | {ids}, {exponents}")),
+        (short, format!("id, k; R as before (below) | {ids}, {exponents}")),
     ];
     for (field, content) in fields {
         let row = format!("{:02x}, length {}", field[0], field[2]);
@@ -662,7 +666,8 @@ fn add_stages_refused(figures: &mut Figures) {
     let (slot, bound) = (asked(&request).slot, share(&asked(&request).listing, VALVE).bound);
     let has = format!("id {VALVE} has {} and asks R {bound}", run.shortfall(VALVE, slot));
     let behind = format!("D, after B at slot {slot}: {has}: {}", number_at(&run, &request));
-    figures.cell(section, SHORTFALL_TOO_LARGE, behind);
+    let short = number_at(&run, &request_short(slot, LONGEST_TRANSITION as u8));
+    figures.cell(section, SHORTFALL_TOO_LARGE, format!("{behind}; by a short field: {short}"));
 }
 
 /// "The queries", after case B.

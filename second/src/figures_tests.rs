@@ -1,22 +1,24 @@
 //! The run against the queries and the windows; the cases by T and by slots, and what an old 9 means;
-//! case B's answer read back, whole, damaged and by fields, and its request written;
+//! case B's answer read back, whole, damaged and by fields, and its request written; case D and what is
+//! there by short fields, and the R that a short field asked, found in the archive;
 //! documents that differ from the figures in a block, an example, the prose or a marker; and every
 //! digit of the dictionary and of docs/WORKED.md.
 
 use crate::archive::{read_answer, tell_field};
 use crate::asking::Asking;
-use crate::cases::{record, request_a, request_b, request_d};
+use crate::cases::{record, request_a, request_b, request_d, request_left, request_short};
 use crate::documents::{cited, faults, Document};
 use crate::figures::{list_and, thousands, Figures};
 use crate::queries::{owner_query, standing_query};
 use crate::random::Random;
-use crate::records::with_longest;
+use crate::records::{read_request, with_longest, Ask};
 use crate::run::Run;
 use crate::timetable::{IDLE, LAST_SLOT};
 use crate::worked::{
-    anew, answer_b, answer_e, answered, asked, broken, by_longest, bytes_e, bytes_with, ids,
-    left_and_returned, lines_of, nine_before, nine_today, nine_without_longest, only_owners, run_a,
-    run_b, slots_from_records, Waiting,
+    anew, answer_b, answer_e, answered, as_there, asked, asks_there, before_cr_3, bound_by_archive,
+    broken, by_longest, bytes_e, bytes_with, ids, in_full, left_and_returned, lines_of,
+    nine_before, nine_today, nine_without_longest, only_owners, request_with, run_a, run_b,
+    slots_from_records, Archived, Field, Waiting, VERSION_AS_BEFORE,
 };
 use std::ops::Range;
 
@@ -257,6 +259,155 @@ fn nines_without_t() {
     assert!((1..65).all(|tries| nine_without_longest((0, tries)) == either(u64::from(tries) - 1)));
     assert_eq!(nine_without_longest((0, 65)), [(11, 64)]);
     assert_eq!([0, 66].map(|tries| nine_without_longest((0, tries)).len()), [0; 2]);
+}
+
+/// The R of ids 0, 1 and 2 in the last timetable of a run.
+fn bounds(run: &Run) -> [u8; 3] {
+    [0, 1, 2].map(|id| run.present().entries[id].bound)
+}
+
+/// Number, place and tries of a request after case B, and then length and offsets.
+fn after_b(request: &[u8]) -> ((u8, u64, u16), (u8, [u8; 3])) {
+    let it = answered(&run_b(), request).0;
+    let offsets = [0, 1, 2].map(|id| it.timetable.entries[id].offset);
+    ((it.number, it.place, it.tries), (it.timetable.length, offsets))
+}
+
+/// Case D with a short field for the valve is case D with the R that B gave it; an id that left, for
+/// the same slot or not, has R 1.
+#[test]
+fn worked_short_field() {
+    assert_eq!(after_b(&request_d(8, 64)).0, (8, 2, 0));
+    assert_eq!(after_b(&request_short(8, 64)), ((0, 0, 1), (0, [0, 2, 1])));
+    assert_eq!(answered(&run_b(), &request_short(8, 64)), answered(&run_b(), &request_b(8, 64)));
+    assert_eq!(bounds(&run_b().after(&request_short(8, 64))), [1, 1, 2]);
+    let left = run_b().after(&request_left(7, 0));
+    assert_eq!(bounds(&left), [1, 1, 0]);
+    let returned = [7, 9].map(|slot| bounds(&left.after(&request_short(slot, 0))));
+    assert_eq!(returned, [[1, 1, 1]; 2]);
+}
+
+/// What is there after case B is accepted at its base and behind it, at some slots with other slots;
+/// then the valve's shortfall reaches 384. Anything else may be refused.
+#[test]
+fn worked_what_is_there() {
+    let b = run_b();
+    let there = |slot: u64| after_b(&as_there(&b, slot, 0));
+    assert_eq!(there(6).0, (6, 0, 0));
+    assert_eq!([7, 8, 10].map(there), [((0, 0, 1), (0, [0, 2, 1])); 3]);
+    assert_eq!(there(9), ((0, 0, 1), (0, [2, 0, 1])));
+    let after = b.after(&as_there(&b, 8, 0));
+    assert_eq!(after.own_slots(2, 8..16), [9, 11, 13, 15]);
+    assert_eq!((8..600).map(|slot| after.shortfall(2, slot)).max(), Some(384));
+    let asked = |fields: &[Field]| after_b(&request_with(8, 0, fields)).0;
+    let (pump, detector, valve) = ((0, 2, None), (1, 2, None), (2, 1, None));
+    assert_eq!(asked(&[pump, detector, valve, (3, 8, None)]), (7, 3, 0));
+    assert_eq!(asked(&[(0, 1, None), detector, valve]), (7, 2, 0));
+    assert_eq!(asked(&[pump, detector, (2, 1, Some(1))]), (8, 2, 0));
+}
+
+/// The answers after case B to a short field for the valve, by both meanings.
+#[test]
+fn worked_before_cr_3() {
+    let told = |slot: u64| {
+        let request = request_short(slot, 0);
+        [before_cr_3(&request), request].map(|request| after_b(&request).0)
+    };
+    assert_eq!([7, 9].map(told), [[(11, 0, 1), (0, 0, 1)]; 2]);
+    assert_eq!([8, 10].map(told), [[(8, 2, 0), (0, 0, 1)]; 2]);
+    assert_eq!(before_cr_3(&request_short(8, 64)), request_d(8, 64));
+    assert_eq!(before_cr_3(&request_b(6, 1)), request_b(6, 1));
+}
+
+/// A request for some of the ids 0 to 3, soon after the base, half of its fields short.
+fn any_short(random: &mut Random, base: u64) -> Vec<u8> {
+    let mut fields: Vec<Field> = Vec::new();
+    for id in 0..4 {
+        let (k, bound) = (1 + random.below(3) as u8, 1 + random.below(3) as u8);
+        if random.below(4) > 0 {
+            fields.push((id, k, (random.below(2) == 0).then_some(bound)));
+        }
+    }
+    request_with(base + random.below(5), 8, &fields)
+}
+
+/// The R of a short field is found in the archive, whichever version took each request: the request
+/// in full that has it is answered alike.
+#[test]
+fn bounds_by_the_archive() {
+    let mut random = Random::new(41);
+    let (mut run, mut archive) = (Run::empty(), Vec::new());
+    let (mut accepted, mut otherwise) = (0, 0);
+    for step in 0..3000 {
+        if step % 10 == 0 {
+            (run, archive) = (Run::empty(), Vec::new());
+        }
+        let request = any_short(&mut random, run.present().base);
+        let (answer, before) = (answered(&run, &request), before_cr_3(&request));
+        let found = in_full(&request, |id| bound_by_archive(&archive, id));
+        assert_eq!(answered(&run, &found), answer);
+        otherwise += usize::from(answer != answered(&run, &before));
+        let version = 1 + random.below(5) as u8;
+        let put = if version > 3 { &request } else { &before };
+        if answered(&run, put).0.number == 0 {
+            run = run.after(put);
+            archive.push(Archived { request, version });
+            accepted += 1;
+        }
+    }
+    assert!(accepted > 1000 && otherwise > 100, "{accepted} and {otherwise} are among them");
+}
+
+/// The version that takes a short field as before is the one that the header tells of.
+#[test]
+fn version_of_the_header() {
+    let header = include_str!("../../include/tarnflaw.h");
+    let heading =
+        format!("From version {} to version {VERSION_AS_BEFORE}\n", VERSION_AS_BEFORE - 1);
+    let told =
+        header.split(&heading).nth(1).and_then(|rest| rest.split(" * Calls that overlap").next());
+    assert!(told.is_some_and(|told| told.contains("a short field asked R 1 of every id")));
+}
+
+/// An 8 names no id whose field is short.
+#[test]
+fn short_fields_are_not_behind() {
+    let mut random = Random::new(47);
+    let mut run = Run::empty();
+    let mut behind = 0;
+    for step in 0..6000 {
+        run = if step % 10 == 0 { Run::empty() } else { run };
+        let request = any_short(&mut random, run.present().base);
+        let answer = answered(&run, &request).0;
+        if answer.number == 8 {
+            let asks = read_request(&request).map(|read| read.asks[answer.place as usize]);
+            assert!(matches!(asks, Ok(Some(Ask { bound: Some(_), .. }))), "{answer:?}");
+            behind += 1;
+        }
+        run = run.after(&request);
+    }
+    assert!(behind > 50, "refusals 8 are among them: {behind}");
+}
+
+/// What is there is granted, at any slot from the base on, after random histories.
+#[test]
+fn what_is_there() {
+    let mut random = Random::new(43);
+    let mut run = Run::empty();
+    let mut moved = 0;
+    for step in 0..900 {
+        run = if step % 10 == 0 { Run::empty() } else { run };
+        run = run.after(&any_short(&mut random, run.present().base));
+        let (present, slot) = (run.present(), run.present().base + random.below(300));
+        let it = answered(&run, &as_there(&run, slot, random.below(3) as u8)).0;
+        assert_eq!((it.number, it.tries, it.timetable.length), (0, 1, 0));
+        assert_eq!(it.timetable.listing(), present.listing());
+        assert_eq!(asks_there(&run), asks_there(&run.with(it.timetable)));
+        let owner = |timetable, slot| owner_query(timetable, slot).1;
+        let other = |slot: u64| owner(&it.timetable, slot) != owner(&present, slot);
+        moved += usize::from((slot..slot + 8).any(other));
+    }
+    assert!(moved > 100, "other slots are among them: {moved}");
 }
 
 /// In case B no shortfall reaches 256 R, and the valve's reaches 256.

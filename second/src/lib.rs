@@ -33,6 +33,7 @@ mod followed;
 mod run;
 mod slots;
 mod spoil;
+mod untouched;
 mod worked;
 
 #[cfg(test)]

@@ -7,7 +7,7 @@ use crate::change::{change, Outcome, Request, AREA};
 use crate::figures::aligned;
 use crate::frames::{frame, print_lines};
 use crate::numbers::{LENGTHS_EXHAUSTED, SLOT_MISSED};
-use crate::records::read_request;
+use crate::records::{longest_field, read_request, share_field, slot_field};
 use crate::run::Run;
 use crate::slots::{pass_slot, room, Shortfalls};
 use crate::timetable::{Listing, Share, Timetable, CYCLE, IDLE, IDS, LONGEST_TRANSITION};
@@ -19,6 +19,9 @@ pub const VALVE: u8 = 2;
 
 /// How long a slot lasts, in ms (docs/RULES.md 1.2).
 pub const SLOT_MS: usize = 2;
+
+/// The first version of the library that takes a short field as before (include/tarnflaw.h).
+pub const VERSION_AS_BEFORE: u8 = 4;
 
 /// The last slot that the documents show of case B.
 pub const LAST_SHOWN: u64 = 14;
@@ -329,4 +332,62 @@ pub fn asking_b() -> Asking {
     };
     let listing = ids(&asked.listing).into_iter().flat_map(entry).collect();
     Asking { slot: asked.slot, longest: asked.longest, listing }
+}
+
+/// What a request asks for an id: id, k and R, or no R where the field is short.
+pub type Field = (u8, u8, Option<u8>);
+
+/// A request with its fields, in full or short.
+pub fn request_with(slot: u64, longest: u8, fields: &[Field]) -> Vec<u8> {
+    let mut request = [slot_field(slot), longest_field(longest)].concat();
+    request.extend(fields.iter().flat_map(|&(id, k, bound)| share_field(id, k, bound)));
+    request
+}
+
+/// The short field that leaves an id as the last timetable of a run has it; k 0 if it is not listed.
+pub fn as_before(run: &Run, id: u8) -> Field {
+    let period = run.present().listing()[usize::from(id)].map_or(1, |share| share.period);
+    (id, period.trailing_zeros() as u8, None)
+}
+
+/// The short fields for all that the last timetable of a run lists.
+pub fn asks_there(run: &Run) -> Vec<Field> {
+    ids(&run.present().listing()).into_iter().map(|id| as_before(run, id)).collect()
+}
+
+/// A request for what is there: what the last timetable of a run lists, by short fields alone.
+pub fn as_there(run: &Run, slot: u64, longest: u8) -> Vec<u8> {
+    request_with(slot, longest, &asks_there(run))
+}
+
+/// What a request asked before CR 3, in full: a short field asked R 1.
+pub fn before_cr_3(request: &[u8]) -> Vec<u8> {
+    in_full(request, |_| 1)
+}
+
+/// A request in full, with an R for each id whose field is short.
+pub fn in_full(request: &[u8], short: impl Fn(u8) -> u8) -> Vec<u8> {
+    let Ok(read) = read_request(request) else { return request.to_vec() };
+    let fields = (0..).zip(read.asks).filter_map(|(id, ask)| {
+        let ask = ask?;
+        Some((id, ask.period.trailing_zeros() as u8, Some(ask.bound.unwrap_or_else(|| short(id)))))
+    });
+    request_with(read.slot, read.longest, &fields.collect::<Vec<Field>>())
+}
+
+/// An archived request that was accepted, and the version that is stored beside it.
+pub struct Archived {
+    pub request: Vec<u8>,
+    pub version: u8,
+}
+
+/// The R that a short field for an id asks as before, from the accepted requests before it alone.
+pub fn bound_by_archive(before: &[Archived], id: u8) -> u8 {
+    let Some((last, earlier)) = before.split_last() else { return 1 };
+    let asks = read_request(&last.request).ok().and_then(|read| read.asks[usize::from(id)]);
+    match asks.map(|ask| ask.bound) {
+        Some(Some(bound)) => bound,
+        Some(None) if last.version >= VERSION_AS_BEFORE => bound_by_archive(earlier, id),
+        _ => 1,
+    }
 }
