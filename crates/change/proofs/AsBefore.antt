@@ -92,7 +92,7 @@ module _ (t : Timetable) (read : ReadRequest) (asks : List Ask)
 -- ---- refusal 8
 
 -- An id with a short field is not behind: listed, it keeps the bound that it had, and newly listed it starts at 0.
-short-kept : (t : Timetable) → Sound t → (slot : CoreSlot) (asks : List Ask) (i : ℕ) → i < IDS → askOf asks i .bound ≡ 0
+pub short-kept : (t : Timetable) → Sound t → (slot : CoreSlot) (asks : List Ask) (i : ℕ) → i < IDS → askOf asks i .bound ≡ 0
     → Behind (entryOf (startEntries t slot asks) i) → ⊥
 unfolding startShortfall
 short-kept t s slot asks i k short b = at (isListed old) refl

@@ -8,6 +8,7 @@ use mathlib.Core.Path.{_≡_, refl, sym, ap, _∙_, subst}
 use native.Mathlib.Omega.{arith}
 use Prim.Native.Nat.{ℕ, zero, suc, _+_, _-_, _*_, _≤_, _<_}
 use Rattle.change.proofs.Answers.{acceptedAs, admitted, admitted-fit}
+use Rattle.change.proofs.AsBefore.{short-kept}
 use Rattle.change.proofs.Stages.{stages}
 use Rattle.change.proofs.Start.{start-at}
 use Rattle.change.specs.Change.{answer, answerOf, answerTo, numberOf, placeOf, refuse, searchOf, startPlan, timetableOf}
@@ -26,7 +27,7 @@ use Rattle.records.specs.declared.Request.{Request}
 use Rattle.records.specs.Request.{askOf, readRequest}
 use Rattle.slots.proofs.Below.{true-false}
 use Rattle.slots.specs.Limits.{AREA, IDS, WHOLE}
-use Rattle.timetable.proofs.Onward.{ahead, ahead-inside, cyclic-onward, kept-after, kept-onward, onward}
+use Rattle.timetable.proofs.Onward.{ahead, ahead-inside, cyclic-onward, kept-onward, onward}
 use Rattle.timetable.proofs.Ranges.{InRange}
 use Rattle.timetable.proofs.Shares.{weight-blank, slices-blank, slices-fit, slices-weight, slicesSum}
 use Rattle.timetable.proofs.Sound.{Sound, sound-from}
@@ -91,12 +92,9 @@ module _ (t : Timetable) (s : Sound t) (q : Request) (same : (i : ℕ) → i < I
           sym (cyclic-onward (old i) (ranged i l .inside) n m)
           ∙ subst (λ (e : Entry). cyclic (withOffset (ahead (old i) n) e) m ≡ true) (there i l) p
 
-  -- Nobody is behind.
+  -- Nobody is behind, for every field is short.
   none-behind : (i : ℕ) → i < IDS → Behind (entryOf es i) → ⊥
-  none-behind i k b =
-      let l : Lists es i = (k, b .0) in
-      let c : WHOLE * old i .bound ≤ shortfallAfter (old i) n = subst (λ (e : Entry). WHOLE * e .bound ≤ e .shortfall) (there i l) (b .1) in
-      omega (arith, kept-after (old i) (ranged i l) n)
+  none-behind i k = short-kept t s (q .slot) (q .asks) i k (ap (λ (a : Ask). a .bound) (same i k))
 
   -- The weights are the slices of one cycle.
   weights : (m : ℕ) → m ≤ IDS → weightSum es m ≡ slicesSum (t .entries) m WHOLE

@@ -25,6 +25,7 @@ use Rattle.transition.specs.RuleThree.{ByRuleThree, walkedTo}
 
 -- The bound that a field asks for an id with this entry in the timetable: its R; or, where the field is short, which is read as 0, the R as before.
 pub data AsksBound (old : Entry) (asked bound : ℕ) : Type 0 where
+  -- the R that is given
   in-full : 0 < asked → bound ≡ asked → AsksBound old asked bound
   -- the R with which the timetable lists the id
   as-listed : asked ≡ 0 → isListed old ≡ true → bound ≡ old .bound → AsksBound old asked bound
