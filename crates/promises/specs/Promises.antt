@@ -180,7 +180,7 @@ pub record Queries : Type 0 where
   pub standing-only : (t : Timetable) (i : ℕ) (x : CoreSlot) (r : StandingAnswer) → StandingGiven t i x r → standingQuery t i x ≡ r
 
 -- 11. Every outcome, with the area afterwards, is what the rules give, said of the outcome itself; and those rules, so said, leave one outcome and
--- one content of the area. (Shuts out: a short field taken as R 2; ties to the higher id; 231 bytes told for every acceptance.)
+-- one content of the area. (Shuts out: R 1 kept for a short field whose id is listed; ties to the higher id; 231 bytes told for every acceptance.)
 pub record Exact : Type 0 where
   pub given : (t : Timetable) (s area : List ℕ) → Gives t s area (outcome t s area) (areaAfter t s area)
   pub one : (t : Timetable) (s area : List ℕ) (r r′ : Outcome) (out out′ : List ℕ) → Gives t s area r out → Gives t s area r′ out′ → (r ≡ r′) × (out ≡ out′)
