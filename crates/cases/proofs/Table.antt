@@ -8,4 +8,4 @@ use Rattle.cases.specs.Cases.{Hold, told, given, head, lists, short, fra
 -- All but E are computed; E holds for every T.
 pub cases-hold : Hold cases
 unfolding rules told given head lists short frame pair requestA requestB requestE requestShort table afterA afterB afterLeaving accepted refused runG cases
-cases-hold = (refl, (refl, (refl, (refl, (refl, (refl, (refl, (refl, (refl, (refl, (refl, (refl, (refl, (refl, (refl, (refl, (refl, (refl, (refl, (refl, holds-E 65 (omega arith)))))))))))))))))))))
+cases-hold = (refl, (refl, (refl, (refl, (refl, (refl, (refl, (refl, (refl, (refl, (refl, (refl, (refl, (refl, (refl, (refl, (refl, (refl, (refl, (refl, (refl, (refl, (refl, (refl, (refl, (refl, (refl, (refl, (refl, holds-E 65 (omega arith))))))))))))))))))))))))))))))

@@ -8,6 +8,7 @@ use mathlib.Core.Path.{_≡_}
 use Prim.Native.Nat.{ℕ, zero, suc, _+_}
 use Rattle.change.specs.Change.{answer, recordOf}
 use Rattle.change.specs.declared.Answer.{Answer}
+use Rattle.change.specs.Queries.{standingQuery}
 use Rattle.change.specs.Stages.{startEntries}
 use Rattle.frames.specs.Program.{programLines}
 use Rattle.records.specs.Answer.{field}
@@ -26,6 +27,8 @@ pub data Asked : Type 0 where
   change : Timetable → List ℕ → Asked
   -- the shortfalls of ids 0, 1 and 2 at the request slot
   starts : Timetable → List ℕ → Asked
+  -- the number, the shortfall and the slices that the standing query tells of an id at a slot
+  standing : Timetable → ℕ → ℕ → Asked
   -- the shortfall of id 0 at a slot of a run
   walk : Run → ℕ → Asked
   -- the room and the last offset of a period, a bound and a shortfall
@@ -55,6 +58,9 @@ given (starts t s) =
     let r = readRequest s .request in
     let es = startEntries t (r .slot) (r .asks) in
     figures (entryOf es 0 .shortfall ∷ entryOf es 1 .shortfall ∷ entryOf es 2 .shortfall ∷ [])
+given (standing t i x) =
+    let a = standingQuery t i (coreSlot x) in
+    figures (a .number ∷ a .shortfall ∷ a .slices .0 ∷ [])
 given (walk run t) = figures (shortfall run 0 t ∷ [])
 given (rooms period bound s) = figures (roomOf period bound s ∷ lastOffsetOf period bound s ∷ [])
 given (prints input) = figures (programLines input)
@@ -101,27 +107,28 @@ requestE slot limit = head slot limit ++ pair ++ lists 2 1 1
 unfoldable pub requestShort : ℕ → ℕ → List ℕ
 requestShort slot limit = head slot limit ++ pair ++ short 2 1
 
--- Helper of cases: a timetable with one transition slot at most.
-unfoldable pub table : ℕ → ℕ → ℕ → List Entry → ℕ → Timetable
-table slot size owner es unlisted = record {
+-- Helper of cases: a timetable with one transition slot at most, by the entries and the starts of the first ids.
+unfoldable pub table : ℕ → ℕ → ℕ → List Entry → List ℕ → ℕ → Timetable
+table slot size owner es ss unlisted = record {
   request = coreSlot slot;
   length = size;
   owners = owner ∷ replicate 63 0;
   base = coreSlot (slot + size);
   entries = es ++ replicate unlisted noEntry;
+  starts = ss ++ replicate unlisted 0;
 }
 
 -- A's timetable: offsets 3 and 2.
 unfoldable pub afterA : Timetable
-afterA = table 0 0 0 (entry 4 3 1 0 ∷ entry 4 2 1 0 ∷ []) 30
+afterA = table 0 0 0 (entry 4 3 1 0 ∷ entry 4 2 1 0 ∷ []) (0 ∷ 0 ∷ []) 30
 
--- B's: slot 6 goes to id 1, base 7, offsets 0, 2, 1.
+-- B's: slot 6 goes to id 1, base 7, offsets 0, 2, 1; the starts are 128, 192, 0.
 unfoldable pub afterB : Timetable
-afterB = table 6 1 1 (entry 4 0 1 192 ∷ entry 4 2 1 0 ∷ entry 2 1 2 128 ∷ []) 29
+afterB = table 6 1 1 (entry 4 0 1 192 ∷ entry 4 2 1 0 ∷ entry 2 1 2 128 ∷ []) (128 ∷ 192 ∷ 0 ∷ []) 29
 
 -- B's, with id 2 left out at slot 7.
 unfoldable pub afterLeaving : Timetable
-afterLeaving = table 7 0 0 (entry 4 0 1 192 ∷ entry 4 3 1 0 ∷ []) 30
+afterLeaving = table 7 0 0 (entry 4 0 1 192 ∷ entry 4 3 1 0 ∷ []) (192 ∷ 0 ∷ []) 30
 
 -- Helper of cases: an acceptance: its tries, timetable and record.
 unfoldable pub accepted : ℕ → Timetable → List ℕ → Given
@@ -163,7 +170,7 @@ Hold (c ∷ cs) = (given (c .asked) ≡ c .says) × Hold cs
 
 -- ---- the table
 
--- Cases A to J, the short field, and the program's lines for A and B.
+-- Cases A to J, standing during a change, the short field, and the program's lines for A and B.
 unfoldable pub cases : List Case
 cases =
     -- A: offsets 3 and 2
@@ -174,6 +181,16 @@ cases =
     ∷ case (change afterA (requestB 6 1))
     (accepted 2 afterB
     (0x10 ∷ 0 ∷ 1 ∷ 1 ∷ 0x11 ∷ 0 ∷ 1 ∷ 1 ∷ 0x12 ∷ 0 ∷ 2 ∷ 0 ∷ 0 ∷ 0x12 ∷ 0 ∷ 2 ∷ 1 ∷ 2 ∷ 0x12 ∷ 0 ∷ 2 ∷ 2 ∷ 1 ∷ []))
+    -- standing during B's change: slot 6 is id 1's; from slot 7 on id 1 keeps that slice
+    ∷ case (standing afterB 0 5) (figures (6 ∷ 0 ∷ 0 ∷ []))
+    ∷ case (standing afterB 0 6) (figures (0 ∷ 128 ∷ 0 ∷ []))
+    ∷ case (standing afterB 1 6) (figures (0 ∷ 192 ∷ 0 ∷ []))
+    ∷ case (standing afterB 2 6) (figures (0 ∷ 0 ∷ 0 ∷ []))
+    ∷ case (standing afterB 0 7) (figures (0 ∷ 192 ∷ 0 ∷ []))
+    ∷ case (standing afterB 1 7) (figures (0 ∷ 0 ∷ 1 ∷ []))
+    ∷ case (standing afterB 2 7) (figures (0 ∷ 128 ∷ 0 ∷ []))
+    ∷ case (standing afterB 0 8) (figures (0 ∷ 0 ∷ 1 ∷ []))
+    ∷ case (standing afterB 1 8) (figures (0 ∷ 64 ∷ 1 ∷ []))
     -- C: B with T 0
     ∷ case (change afterA (requestB 6 0)) (refused 11 0 1 afterA)
     -- D: the shortfall of id 2 is 256
@@ -181,18 +198,18 @@ cases =
     ∷ case (change afterB (requestE 8 1)) (refused 8 2 0 afterB)
     -- D with a short field for id 2, whose R is 2 as before
     ∷ case (change afterB (requestShort 8 1))
-    (accepted 1 (table 8 0 0 (entry 4 0 1 0 ∷ entry 4 2 1 64 ∷ entry 2 1 2 256 ∷ []) 29)
+    (accepted 1 (table 8 0 0 (entry 4 0 1 0 ∷ entry 4 2 1 64 ∷ entry 2 1 2 256 ∷ []) (0 ∷ 64 ∷ 256 ∷ []) 29)
     (0x10 ∷ 0 ∷ 1 ∷ 0 ∷ 0x11 ∷ 0 ∷ 0 ∷ 0x12 ∷ 0 ∷ 2 ∷ 0 ∷ 0 ∷ 0x12 ∷ 0 ∷ 2 ∷ 1 ∷ 2 ∷ 0x12 ∷ 0 ∷ 2 ∷ 2 ∷ 1 ∷ []))
     -- id 2 left out after B, and asked for again with a short field: R 1
     ∷ case (change afterB (head 7 0 ++ pair))
     (accepted 1 afterLeaving (0x10 ∷ 0 ∷ 1 ∷ 0 ∷ 0x11 ∷ 0 ∷ 0 ∷ 0x12 ∷ 0 ∷ 2 ∷ 0 ∷ 0 ∷ 0x12 ∷ 0 ∷ 2 ∷ 1 ∷ 3 ∷ []))
     ∷ case (change afterLeaving (requestShort 7 0))
-    (accepted 1 (table 7 0 0 (entry 4 0 1 192 ∷ entry 4 2 1 0 ∷ entry 2 1 1 0 ∷ []) 29)
+    (accepted 1 (table 7 0 0 (entry 4 0 1 192 ∷ entry 4 2 1 0 ∷ entry 2 1 1 0 ∷ []) (192 ∷ 0 ∷ 0 ∷ []) 29)
     (0x10 ∷ 0 ∷ 1 ∷ 0 ∷ 0x11 ∷ 0 ∷ 0 ∷ 0x12 ∷ 0 ∷ 2 ∷ 0 ∷ 0 ∷ 0x12 ∷ 0 ∷ 2 ∷ 1 ∷ 2 ∷ 0x12 ∷ 0 ∷ 2 ∷ 2 ∷ 1 ∷ []))
     -- F: slot 6 is too early, slot 7 is not
     ∷ case (change afterB (requestB 6 1)) (refused 6 0 0 afterB)
     ∷ case (change afterB (requestB 7 1))
-    (accepted 1 (table 7 0 0 (entry 4 0 1 192 ∷ entry 4 2 1 0 ∷ entry 2 1 2 128 ∷ []) 29)
+    (accepted 1 (table 7 0 0 (entry 4 0 1 192 ∷ entry 4 2 1 0 ∷ entry 2 1 2 128 ∷ []) (192 ∷ 0 ∷ 128 ∷ []) 29)
     (0x10 ∷ 0 ∷ 1 ∷ 0 ∷ 0x11 ∷ 0 ∷ 0 ∷ 0x12 ∷ 0 ∷ 2 ∷ 0 ∷ 0 ∷ 0x12 ∷ 0 ∷ 2 ∷ 1 ∷ 2 ∷ 0x12 ∷ 0 ∷ 2 ∷ 2 ∷ 1 ∷ []))
     -- G: figure 7 of the 2021 paper
     ∷ case (walk runG 8) (figures (448 ∷ []))
@@ -205,7 +222,7 @@ cases =
     ∷ case (change emptyTimetable (head 0 0)) (accepted 1 emptyTimetable (0x10 ∷ 0 ∷ 1 ∷ 0 ∷ 0x11 ∷ 0 ∷ 0 ∷ []))
     -- J: period 1 with R 1 alone, and with a later id of period 256 too
     ∷ case (change emptyTimetable (head 0 0 ++ lists 5 0 1))
-    (accepted 1 (table 0 0 0 (replicate 5 noEntry ++ (entry 1 0 1 0 ∷ [])) 26) (0x10 ∷ 0 ∷ 1 ∷ 0 ∷ 0x11 ∷ 0 ∷ 0 ∷ 0x12 ∷ 0 ∷ 2 ∷ 5 ∷ 0 ∷ []))
+    (accepted 1 (table 0 0 0 (replicate 5 noEntry ++ (entry 1 0 1 0 ∷ [])) (replicate 6 0) 26) (0x10 ∷ 0 ∷ 1 ∷ 0 ∷ 0x11 ∷ 0 ∷ 0 ∷ 0x12 ∷ 0 ∷ 2 ∷ 5 ∷ 0 ∷ []))
     ∷ case (change emptyTimetable (head 0 0 ++ lists 5 0 1 ++ lists 9 8 1)) (refused 7 9 0 emptyTimetable)
     -- the program's lines for A and B
     ∷ case (prints (frame requestA ++ frame (requestB 6 1)))

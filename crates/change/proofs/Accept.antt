@@ -1,17 +1,17 @@
 -- An accepted change continues the timetable before it: its plan was reached slot by slot with every bound kept, and then placed. Assumes nothing.
 use lib.ListN.{getD, length, List·getD-eq-default}
-use mathlib.Core.Bool.{Bool, true, false}
+use mathlib.Core.Bool.{true, false}
 use mathlib.Core.List.{List}
 use mathlib.Core.Option.{some}
 use mathlib.Core.Path.{_≡_, refl, sym, ap, ap₂, _∙_, subst}
 use native.Mathlib.Decide.{ℕ-discrete, decLt}
 use native.Mathlib.Omega.{arith}
 use Prim.Native.Nat.{ℕ, _+_, _-_, _*_, _≤_, _<_}
-use Rattle.change.proofs.Start.{start-fit, start-listed}
-use Rattle.change.specs.Change.{newTimetable, startPlan}
+use Rattle.change.proofs.Start.{start-fit, start-listed, start-of}
+use Rattle.change.specs.Change.{newTimetable, startPlan, startsOf}
 use Rattle.change.specs.Refused.{Behind}
 use Rattle.change.specs.Stages.{startEntries}
-use Rattle.placement.proofs.Complete.{settle-entry, settle-ranged, settle-apart, settle-unlisted}
+use Rattle.placement.proofs.Complete.{settle-apart, settle-kept, settle-listed, settle-ranged}
 use Rattle.placement.proofs.Settle.{length-settle}
 use Rattle.placement.specs.Placement.{Place, placement, settle}
 use Rattle.records.proofs.ReadLaws.{RequestRange}
@@ -20,10 +20,11 @@ use Rattle.slots.proofs.Below.{true-false}
 use Rattle.slots.specs.Limits.{IDS, LONGEST, WHOLE}
 use Rattle.timetable.proofs.Ranges.{InRange}
 use Rattle.timetable.proofs.Run.{Continues}
+use Rattle.timetable.proofs.Since.{shortfall-before}
 use Rattle.timetable.proofs.Sound.{Ranged, Sound}
 use Rattle.timetable.specs.declared.Entry.{Entry}
 use Rattle.timetable.specs.declared.Timetable.{Timetable}
-use Rattle.timetable.specs.Timetable.{noEntry, entryOf, isListed, lists, weight, withOffset, withShortfall, startShortfall, transitionShortfall}
+use Rattle.timetable.specs.Timetable.{noEntry, entryOf, startOf, isListed, lists, weight, withOffset, withShortfall, shortfallSince, startShortfall, transitionShortfall}
 use Rattle.transition.proofs.Plans.{Fit}
 use Rattle.transition.proofs.Reach.{fit-reached}
 use Rattle.transition.proofs.Search.{PassedFirst}
@@ -53,7 +54,7 @@ module _ (t : Timetable) (r : Request) (ranged : Ranged (t .entries)) (q : Reque
 
   -- The new timetable.
   new : Timetable
-  new = newTimetable r k (placed p ps)
+  new = newTimetable r (startsOf t r) k (placed p ps)
 
   small : k ≤ LONGEST
   small = omega (arith, q .limit)
@@ -74,31 +75,13 @@ module _ (t : Timetable) (r : Request) (ranged : Ranged (t .entries)) (q : Reque
   unfolding plan
   at-k = fit-at k (omega arith) p here
 
-  settled-listed : (i : ℕ) → i < IDS → isListed (entryOf (settle (p .entries) ps) i) ≡ isListed (entryOf (p .entries) i)
-  settled-listed i l = at (isListed (entryOf (p .entries) i)) refl
-    where
-      at : (b : Bool) → isListed (entryOf (p .entries) i) ≡ b → isListed (entryOf (settle (p .entries) ps) i) ≡ b
-      at true e = ap isListed (settle-entry (p .entries) (at-k .ranged) (at-k .entries) ps rule4 i l e) ∙ e
-      at false e = ap isListed (settle-unlisted (p .entries) (at-k .ranged) (at-k .entries) ps rule4 i l e) ∙ e
-
-  new-sound : Sound new
-  unfolding new placed
-  new-sound = record {
-    request = q .slot;
-    size = small;
-    base = refl;
-    owners = λ n l.
-        let u : ℕ = getD (p .owners) n 0 in
-        let s = at-k .served n l in
-        settled-listed u (listed-below (p .entries) (at-k .entries) u s) ∙ s;
-    ranged = settle-ranged (p .entries) (at-k .ranged) (at-k .entries) ps rule4;
-    apart = settle-apart (p .entries) (at-k .ranged) (at-k .entries) ps rule4;
-    unused = λ n _ l. at-k .unused n l;
-  }
-
-  module _ (i : ℕ) (ik : i < IDS) (il : isListed (entryOf (settle (p .entries) ps) i) ≡ true) where
+  module _ (i : ℕ) (ik : i < IDS) where
+    -- Id i at the request slot, and at the base.
     s : Entry
     s = entryOf (plan .entries) i
+
+    abbrev e : Entry
+    e = entryOf (settle (p .entries) ps) i
 
     -- The walk of id i over the transition's owners.
     walk : ℕ → ℕ
@@ -115,53 +98,73 @@ module _ (t : Timetable) (r : Request) (ranged : Ranged (t .entries)) (q : Reque
         (walk-agree (x .owners) (p .owners) i (weight s) (s .shortfall) n (λ m h. sym (owners-stay plan fit n j x p e z m h)))
 
     -- The settled entry is the one reached, at its offset.
-    settled : entryOf (settle (p .entries) ps) i ≡ withOffset (entryOf (settle (p .entries) ps) i .offset) (withShortfall (walk k) s)
+    settled : e ≡ withOffset (e .offset) (withShortfall (walk k) s)
     unfolding plan
-    settled =
-        settle-entry (p .entries) (at-k .ranged) (at-k .entries) ps rule4 i ik (sym (settled-listed i ik) ∙ il)
-        ∙ ap (withOffset (entryOf (settle (p .entries) ps) i .offset)) (walks k (omega arith) p here)
+    settled = settle-kept (p .entries) (at-k .ranged) (at-k .entries) ps rule4 i ik ∙ ap (withOffset (e .offset)) (walks k (omega arith) p here)
 
-    -- It starts with the shortfall at the request slot.
-    starts : s .shortfall ≡ startShortfall t (r .slot) i
+    -- It starts with the shortfall at the request slot,
+    starts : startOf new i ≡ s .shortfall
+    unfolding new s plan
+    starts = start-of t r i
+
+    enters : isListed e ≡ true → startOf new i ≡ startShortfall t (r .slot) i
     unfolding s plan startPlan
-    starts =
-        let l : isListed (entryOf (startEntries t (r .slot) (r .asks)) i) ≡ true =
-        sym (ap isListed settled) ∙ il in
-        ap (λ (e : Entry). e .shortfall) (start-listed t (r .slot) (r .asks) i ik l .1)
+    enters il =
+        let l : isListed (entryOf (startEntries t (r .slot) (r .asks)) i) ≡ true = sym (ap isListed settled) ∙ il in
+        starts ∙ ap (λ (e : Entry). e .shortfall) (start-listed t (r .slot) (r .asks) i ik l .1)
 
-    bears : (n : ℕ) → n ≤ k → walk n < WHOLE * s .bound
-    bears n l =
+    -- keeps its bound on the way,
+    bears : isListed e ≡ true → (n : ℕ) → n ≤ k → walk n < WHOLE * e .bound
+    bears il n l =
         let w = on-the-way n l in
         let f = fit-at n l (w .0) (w .1) in
-        let e = walks n l (w .0) (w .1) in
-        let li : isListed (entryOf (w .0 .entries) i) ≡ true = ap isListed e ∙ sym (ap isListed settled) ∙ il in
-        let g : InRange (withShortfall (walk n) s) = subst InRange e (f .ranged .listed i ik li) in
-        omega (arith, g .kept)
+        let x = walks n l (w .0) (w .1) in
+        let li : isListed (entryOf (w .0 .entries) i) ≡ true = ap isListed x ∙ sym (ap isListed settled) ∙ il in
+        let g : InRange (withShortfall (walk n) s) = subst InRange x (f .ranged .listed i ik li) in
+        omega (arith, g .kept, ap (λ (y : Entry). y .bound) settled)
 
-    arrives : walk k ≡ entryOf (settle (p .entries) ps) i .shortfall
-    arrives = sym (ap (λ (e : Entry). e .shortfall) settled)
+    -- and arrives at the shortfall that is kept for the base.
+    transition : (n : ℕ) → transitionShortfall (p .owners) i (weight e) (startOf new i) n ≡ walk n
+    unfolding walk
+    transition n = ap₂ (λ (w x : ℕ). transitionShortfall (p .owners) i w x n) (ap weight settled) starts
 
-  new-kept : (i : ℕ) → i < IDS → lists new i ≡ true → (n : ℕ) → n ≤ k
-      → transitionShortfall (new .owners) i (weight (entryOf (new .entries) i)) (startShortfall t (new .request) i) n
-      < WHOLE * entryOf (new .entries) i .bound
-  unfolding new placed walk
-  new-kept i ik il n l =
-      subst (λ (e : Entry). transitionShortfall (p .owners) i (weight e) (startShortfall t (r .slot) i) n < WHOLE * e .bound) (sym (settled i ik il))
-      (subst (λ (x : ℕ). transitionShortfall (p .owners) i (weight (s i ik il)) x n < WHOLE * s i ik il .bound) (starts i ik il) (bears i ik il n l))
+    arrives : transitionShortfall (p .owners) i (weight e) (startOf new i) k ≡ e .shortfall
+    arrives = transition k ∙ sym (ap (λ (y : Entry). y .shortfall) settled)
 
-  new-arrives : (i : ℕ) → i < IDS → lists new i ≡ true
-      → transitionShortfall (new .owners) i (weight (entryOf (new .entries) i)) (startShortfall t (new .request) i) k ≡ entryOf (new .entries) i .shortfall
-  unfolding new placed walk
-  new-arrives i ik il =
-      ap₂ (λ (w x : ℕ). transitionShortfall (p .owners) i w x k) (ap weight (settled i ik il)) (sym (starts i ik il)) ∙ arrives i ik il
+    -- Of an id that is not listed nothing is kept.
+    start-blank : isListed e ≡ false → startOf new i ≡ 0
+    unfolding s
+    start-blank il = starts ∙ ap (λ (y : Entry). y .shortfall) (fit .ranged .blank i ik (sym (ap isListed settled) ∙ il))
+
+  new-sound : Sound new
+  unfolding new placed walk transitionShortfall
+  new-sound = record {
+    request = q .slot;
+    size = small;
+    base = refl;
+    owners = λ n l.
+        let u : ℕ = getD (p .owners) n 0 in
+        let s = at-k .served n l in
+        settle-listed (p .entries) (at-k .ranged) (at-k .entries) ps rule4 u (listed-below (p .entries) (at-k .entries) u s) ∙ s;
+    ranged = settle-ranged (p .entries) (at-k .ranged) (at-k .entries) ps rule4;
+    apart = settle-apart (p .entries) (at-k .ranged) (at-k .entries) ps rule4;
+    unused = λ n _ l. at-k .unused n l;
+    start-kept = λ i ik il. omega (arith, starts i ik, bears i ik il 0 (omega arith));
+    start-zero = start-blank;
+    arrives = arrives;
+  }
+
+  new-kept : (i : ℕ) → i < IDS → lists new i ≡ true → (n : ℕ) → n ≤ k → shortfallSince new i n < WHOLE * entryOf (new .entries) i .bound
+  unfolding new placed
+  new-kept i ik il n l = omega (arith, shortfall-before new new-sound i n l, transition i ik n, bears i ik il n l)
 
   -- The new timetable continues the one before.
-  pub found-continues : Continues t (newTimetable r k (placed p ps))
+  pub found-continues : Continues t (newTimetable r (startsOf t r) k (placed p ps))
   unfolding new placed
   found-continues = record {
     sound = new-sound;
     shape = length-settle (p .entries) ps ∙ at-k .entries;
     later = later;
+    starts = enters;
     kept = new-kept;
-    arrives = new-arrives;
   }

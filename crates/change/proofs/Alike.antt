@@ -1,7 +1,7 @@
 -- Two requests, as they are read, that get the same answer: the stages before the search say the same of both, and so does the search. Assumes nothing.
-use mathlib.Core.Path.{_≡_, refl, ap, _∙_}
+use mathlib.Core.Path.{_≡_, refl, ap, ap₂, _∙_}
 use Prim.Native.Nat.{ℕ}
-use Rattle.change.specs.Change.{answerOf, answerTo, newTimetable, numberOf, placeOf, searchOf, timetableOf}
+use Rattle.change.specs.Change.{answerOf, answerTo, newTimetable, numberOf, placeOf, searchOf, shortfallsOf, startPlan, startsOf, timetableOf}
 use Rattle.change.specs.Stages.{verdictBefore}
 use Rattle.numbers.specs.declared.Verdict.{Verdict}
 use Rattle.numbers.specs.declared.Verdict.the-variants.{Passed, Refused}
@@ -11,16 +11,18 @@ use Rattle.slots.specs.declared.CoreSlot.{CoreSlot}
 use Rattle.timetable.specs.declared.Timetable.{Timetable}
 use Rattle.transition.specs.declared.Ending.{Ending}
 use Rattle.transition.specs.declared.Ending.the-variants.{Found, Missed, Exhausted}
+use Rattle.transition.specs.declared.Plan.{Plan}
 use Rattle.transition.specs.declared.Searched.{Searched}
 
--- The answer of a search asks the request for its slot alone.
-pub same-slot : (t : Timetable) (q q′ : Request) → q′ .slot ≡ q .slot → (x : Searched) → answerOf t q′ x ≡ answerOf t q x
-unfolding answerOf timetableOf
-same-slot t q q′ e x =
+-- The answer of a search asks the request for its slot and its starts alone.
+pub same-slot : (t : Timetable) (q q′ : Request) → q′ .slot ≡ q .slot → startPlan t q′ ≡ startPlan t q → (x : Searched) → answerOf t q′ x ≡ answerOf t q x
+unfolding answerOf timetableOf startsOf
+same-slot t q q′ e p x =
     ap (λ (u : Timetable). record { number = numberOf (x .ending); place = placeOf (x .ending); tries = x .tries; timetable = u }) (at (x .ending))
   where
     at : (y : Ending) → timetableOf t q′ (x .plan) y ≡ timetableOf t q (x .plan) y
-    at (Found n) = ap (λ (s : CoreSlot). newTimetable (record { slot = s; limit = q .limit; asks = q .asks }) n (x .plan)) e
+    at (Found n) =
+        ap₂ (λ (s : CoreSlot) (y : Plan). newTimetable (record { slot = s; limit = q .limit; asks = q .asks }) (shortfallsOf (y .entries)) n (x .plan)) e p
     at (Missed n) = refl
     at (Exhausted n) = refl
 

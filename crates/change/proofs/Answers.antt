@@ -11,7 +11,7 @@ use Prim.Native.Nat.{ℕ, suc, _≤_, _<_}
 use Rattle.change.proofs.Accept.{found-continues}
 use Rattle.change.proofs.Stages.{stages}
 use Rattle.change.proofs.Start.{start-fit}
-use Rattle.change.specs.Change.{numberOf, placeOf, newTimetable, timetableOf, startPlan, searchOf, answerOf, refuse, answerTo, answer, recordOf}
+use Rattle.change.specs.Change.{numberOf, placeOf, newTimetable, timetableOf, startPlan, startsOf, searchOf, answerOf, refuse, answerTo, answer, recordOf}
 use Rattle.change.specs.declared.Answer.{Answer}
 use Rattle.change.specs.Refused.{not-sound, sound, small-area, enough, bad-field, whole, too-early, in-time, overfull, fits, Behind, behind, keep-up, StagesSay}
 use Rattle.change.specs.Stages.{startEntries, verdictBefore}
@@ -55,8 +55,8 @@ pub admitted-fit : (t : Timetable) (r : Request) (area : ℕ) → Admitted t r a
 admitted-fit t r area p = start-fit t r (p .sound .ranged) (p .range) (p .fine)
 
 -- The answer with a schedule: length k, and the plan placed.
-abbrev pub acceptedAs : Request → ℕ → Plan → Answer
-acceptedAs r k plan = record { number = ACCEPTED; place = 0; tries = suc k; timetable = newTimetable r k plan }
+abbrev pub acceptedAs : Timetable → Request → ℕ → Plan → Answer
+acceptedAs t r k plan = record { number = ACCEPTED; place = 0; tries = suc k; timetable = newTimetable r (startsOf t r) k plan }
 
 -- The answer for want of a schedule: its number, and the length at which the search ended.
 abbrev pub refusedAs : Timetable → ℕ → ℕ → Answer
@@ -77,7 +77,7 @@ pub data Gets (t : Timetable) (s : List ℕ) (area : ℕ) : Answer → Type 0 wh
   accepted : verdictBefore t (readRequest s) area ≡ Passed → Admitted t (readRequest s .request) area
       → (k : ℕ) → k ≤ readRequest s .request .limit → PassedFirst k 0 (startPlan t (readRequest s .request))
       → (p : Plan) → reach (startPlan t (readRequest s .request)) k ≡ some p → (ps : List Place) → placement (p .entries) ≡ some ps
-      → Gets t s area (acceptedAs (readRequest s .request) k (placed p ps))
+      → Gets t s area (acceptedAs t (readRequest s .request) k (placed p ps))
   no-slot : verdictBefore t (readRequest s) area ≡ Passed → Admitted t (readRequest s .request) area
       → (k : ℕ) → k < readRequest s .request .limit → PassedFirst (suc k) 0 (startPlan t (readRequest s .request))
       → (p : Plan) → reach (startPlan t (readRequest s .request)) k ≡ some p → longer k p ≡ none → Gets t s area (refusedAs t SLOT-MISSED k)

@@ -15,7 +15,7 @@ use Rattle.change.proofs.StageSteps.{enter-none, given-bound, listed-bo
 use Rattle.change.proofs.Start.{length-start, start-at, start-listed}
 use Rattle.change.specs.Change.{answerOf, answerTo, searchOf, startPlan}
 use Rattle.change.specs.Given.{AsksBound}
-use Rattle.change.specs.Refused.{Behind, StagesSay, bad-field, behind, not-sound, overfull, small-area, sound, too-early}
+use Rattle.change.specs.Refused.{Behind, StagesSay, bad-field, behind, in-time, not-sound, overfull, small-area, sound, too-early}
 use Rattle.change.specs.Stages.{askedBound, entering, stageEarly, stageFields, stagesFirst, stagesListed, startEntries, verdictBefore}
 use Rattle.numbers.specs.Chain.{firstOf, passed, refused as stops}
 use Rattle.numbers.specs.declared.Refusal.{Refusal}
@@ -28,12 +28,13 @@ use Rattle.records.specs.Request.{askOf, readRequest}
 use Rattle.slots.specs.declared.CoreSlot.{CoreSlot}
 use Rattle.slots.specs.Limits.{IDS, LONGEST, WHOLE}
 use Rattle.timetable.proofs.Onward.{kept-after}
+use Rattle.timetable.proofs.Since.{start-cycle}
 use Rattle.timetable.proofs.Sound.{Sound, sound-from}
 use Rattle.timetable.specs.declared.Entry.{Entry}
 use Rattle.timetable.specs.declared.Timetable.{Timetable}
-use Rattle.timetable.specs.Timetable.{entersWith, entryOf, isListed, shortfallAfter, startShortfall}
+use Rattle.timetable.specs.Timetable.{entryOf, isListed, shortfallAfter, startShortfall}
 use Rattle.transition.proofs.RuleThreeLaws.{same-entries}
-use Rattle.transition.specs.declared.Searched.{Searched}
+use Rattle.transition.specs.declared.Plan.{Plan}
 use Rattle.transition.specs.Transition.{searchFrom}
 
 -- An id enters with the same entry, whether its field is short or gives the bound that the short one asks.
@@ -49,7 +50,7 @@ enters-same old n ask full p b = at (ℕ-discrete (ask .period) 0)
         let f : askedBound old full ≡ askedBound old ask =
         sym (given-bound old full (λ y. omega (arith, w .0))) ∙ bound-one old (ask .bound) (full .bound) (askedBound old ask) (w .1) (asks-bound old ask) in
         rw (lt-ltb 0 (full .period) (omega (arith, p)), lt-ltb 0 (ask .period) (omega arith))
-        (λ j. record { period = p j; offset = 0; bound = f j; shortfall = entersWith old n })
+        (λ j. record { period = p j; offset = 0; bound = f j; shortfall = n })
 
 -- What was read, with other asks.
 abbrev pub withAsks : List Ask → ReadRequest → ReadRequest
@@ -69,7 +70,7 @@ module _ (t : Timetable) (read : ReadRequest) (asks : List Ask)
       same-entries (startEntries t slot asks) (startEntries t slot (read .request .asks)) (length-start t slot asks) (length-start t slot (read .request .asks))
       (λ i k.
       start-at t slot asks i k
-      ∙ enters-same (entryOf (t .entries) i) (slot .0 - t .base .0) (askOf (read .request .asks) i) (askOf asks i) (period i k) (bound i k)
+      ∙ enters-same (entryOf (t .entries) i) (startShortfall t slot i) (askOf (read .request .asks) i) (askOf asks i) (period i k) (bound i k)
       ∙ sym (start-at t slot (read .request .asks) i k))
 
   -- So what the stages before the search say is the same,
@@ -78,24 +79,28 @@ module _ (t : Timetable) (read : ReadRequest) (asks : List Ask)
   verdict-same area = ap (λ (es : List Entry). firstOf (stagesFirst t read area ++ stagesListed es)) starts-same
 
   -- and the search,
+  plan-same : startPlan t (withAsks asks read .request) ≡ startPlan t (read .request)
+  unfolding startPlan
+  plan-same = ap {B = Plan} (λ (es : List Entry). record { owners = replicate LONGEST 0; entries = es }) starts-same
+
   search-same : searchOf t (withAsks asks read .request) ≡ searchOf t (read .request)
-  unfolding searchOf startPlan
-  search-same =
-      ap {B = Searched} (λ (es : List Entry). searchFrom (read .request .limit) 0 (record { owners = replicate LONGEST 0; entries = es })) starts-same
+  unfolding searchOf
+  search-same = ap (searchFrom (read .request .limit) 0) plan-same
 
   -- and the whole answer.
   pub in-full-same : (area : ℕ) → answerTo t (withAsks asks read) area ≡ answerTo t read area
   in-full-same area =
       alike t read (withAsks asks read) area (verdict-same area)
-      (λ _. same-slot t (read .request) (withAsks asks read .request) refl (searchOf t (withAsks asks read .request)) ∙ ap (answerOf t (read .request)) search-same)
+      (λ _.
+      same-slot t (read .request) (withAsks asks read .request) refl plan-same (searchOf t (withAsks asks read .request))
+      ∙ ap (answerOf t (read .request)) search-same)
 
 -- ---- refusal 8
 
 -- An id with a short field is not behind: listed, it keeps the bound that it had, and newly listed it starts at 0.
-pub short-kept : (t : Timetable) → Sound t → (slot : CoreSlot) (asks : List Ask) (i : ℕ) → i < IDS → askOf asks i .bound ≡ 0
+pub short-kept : (t : Timetable) → Sound t → (slot : CoreSlot) → t .base .0 ≤ slot .0 → (asks : List Ask) (i : ℕ) → i < IDS → askOf asks i .bound ≡ 0
     → Behind (entryOf (startEntries t slot asks) i) → ⊥
-unfolding startShortfall
-short-kept t s slot asks i k short b = at (isListed old) refl
+short-kept t s slot later asks i k short b = at (isListed old) refl
   where
     old : Entry
     old = entryOf (t .entries) i
@@ -103,17 +108,17 @@ short-kept t s slot asks i k short b = at (isListed old) refl
     n : ℕ
     n = slot .0 - t .base .0
 
-    owed : WHOLE * askedBound old (askOf asks i) ≤ entersWith old n
+    owed : WHOLE * askedBound old (askOf asks i) ≤ startShortfall t slot i
     owed = subst (λ (e : Entry). WHOLE * e .bound ≤ e .shortfall) (start-listed t slot asks i k (b .0) .1) (b .1)
 
     at : (x : Bool) → isListed old ≡ x → ⊥
     at true l =
         let f = listed-bound old l ∙ short-bound old (askOf asks i) short in
-        let g : entersWith old n ≡ shortfallAfter old n = sym (listed-shortfall old n (shortfallAfter old n) l refl) in
+        let g : startShortfall t slot i ≡ shortfallAfter old n = sym (listed-shortfall old n (shortfallAfter old n) l refl ∙ start-cycle t s i k slot later) in
         omega (arith, owed, f, g, kept-after old (s .ranged .listed i k l) n)
     at false l =
         let f = new-bound old l ∙ short-bound old (askOf asks i) short in
-        let g : entersWith old n ≡ 0 = sym (new-shortfall old n 0 l refl) in
+        let g : startShortfall t slot i ≡ 0 = sym (new-shortfall old n 0 l refl ∙ start-cycle t s i k slot later) in
         omega (arith, owed, f, g)
 
 -- So 8 names an id whose field gives its R.
@@ -124,9 +129,9 @@ behind-in-full t s area x (stops _ (passed _ _ (stops _ (small-area a)))) e = ab
 behind-in-full t s area x (stops _ (passed _ _ (passed _ _ (stops _ (bad-field q f))))) e = absurd (omega (arith, refused-in-range s q f .high))
 behind-in-full t s area x (stops _ (passed _ _ (passed _ _ (passed _ _ (too-early a))))) e = absurd (omega arith)
 behind-in-full t s area x (passed _ _ (stops _ (overfull i k f g))) e = absurd (omega arith)
-behind-in-full t s area x (passed _ (passed _ (sound z) _) (passed _ _ (behind i k b f))) e =
+behind-in-full t s area x (passed _ (passed _ (sound z) (passed _ _ (passed _ _ (in-time l)))) (passed _ _ (behind i k b f))) e =
     at (ℕ-discrete (askOf (readRequest s .request .asks) i .bound) 0)
   where
     at : Dec (askOf (readRequest s .request .asks) i .bound ≡ 0) → 0 < askOf (readRequest s .request .asks) i .bound
-    at (yes y) = absurd (short-kept t (sound-from t z) (readRequest s .request .slot) (readRequest s .request .asks) i k y b)
+    at (yes y) = absurd (short-kept t (sound-from t z) (readRequest s .request .slot) l (readRequest s .request .asks) i k y b)
     at (no y) = omega arith

@@ -1,6 +1,6 @@
 -- What a request gets is what the rules give: the plan that the search found was reached slot by slot, placed by rule 4, and written. Assumes nothing.
 use borrow.Author.Tests.{le-ltb, lt-ltb}
-use lib.ListN.{length}
+use lib.ListN.{length, length-map}
 use mathlib.Core.Bool.{Bool, true, false}
 use mathlib.Core.List.{List}
 use mathlib.Core.Logic.{_⊎_, inl, inr}
@@ -11,14 +11,14 @@ use native.Mathlib.Omega.{arith}
 use Prim.Native.Nat.{ℕ, suc, _-_, _≤_, _<_}
 use Rattle.change.proofs.Answers.{Gets, Admitted, admitted-fit, accepted, acceptedAs, gets, no-length, no-slot, record-none, refused, said}
 use Rattle.change.proofs.StageSteps.{given-bound, listed-bound, new-bound, short-bound}
-use Rattle.change.proofs.Start.{length-start, start-at}
-use Rattle.change.specs.Change.{answer, areaAfter, outcome, outcomeOf, recordOf, refuse, startPlan, written}
+use Rattle.change.proofs.Start.{length-start, start-at, start-of}
+use Rattle.change.specs.Change.{answer, areaAfter, outcome, outcomeOf, recordOf, refuse, shortfallsOf, startPlan, startsOf, written}
 use Rattle.change.specs.declared.Answer.{Answer}
 use Rattle.change.specs.Given.{AsksBound, in-full, as-listed, not-listed, Enters, AtRequest, ByRules, EndsAt, missed, exhausted, Wanting, Gives, early, schedule, wanting}
 use Rattle.change.specs.Stages.{askedBound, entering, startEntries}
 use Rattle.numbers.specs.declared.Verdict.the-variants.{Passed, Refused}
 use Rattle.numbers.specs.Numbers.{SLOT-MISSED, LENGTHS-EXHAUSTED}
-use Rattle.placement.proofs.Complete.{placement-none, settle-entry, settle-unlisted}
+use Rattle.placement.proofs.Complete.{placement-none, settle-kept, settle-unlisted}
 use Rattle.placement.proofs.RuleFourLaws.{rule-four-is}
 use Rattle.placement.proofs.Settle.{length-settle}
 use Rattle.placement.specs.Any.{NoPlacement}
@@ -56,14 +56,14 @@ asks-bound old a = at (ℕ-discrete (a .bound) 0) (isListed old) refl
 
 -- The entries at the request slot are those of rule 1.
 pub at-request : (t : Timetable) (q : Request) → AtRequest t q (startEntries t (q .slot) (q .asks))
-unfolding entering startShortfall
+unfolding entering
 at-request t q = record {
   count = length-start t (q .slot) (q .asks);
   listed = λ i k h. subst (Enters t q i) (sym (start-at t (q .slot) (q .asks) i k)) (enters i h);
   blank = λ i k z. start-at t (q .slot) (q .asks) i k ∙ rw (le-ltb 0 (askOf (q .asks) i .period) (omega arith));
 }
   where
-    enters : (i : ℕ) → 0 < askOf (q .asks) i .period → Enters t q i (entering (entryOf (t .entries) i) (q .slot .0 - t .base .0) (askOf (q .asks) i))
+    enters : (i : ℕ) → 0 < askOf (q .asks) i .period → Enters t q i (entering (entryOf (t .entries) i) (startShortfall t (q .slot) i) (askOf (q .asks) i))
     enters i h =
         rw (lt-ltb 0 (askOf (q .asks) i .period) h)
         (record { period = refl; bound = asks-bound (entryOf (t .entries) i) (askOf (q .asks) i); shortfall = refl; offset = refl })
@@ -96,8 +96,8 @@ module _ (t : Timetable) (q : Request) (area : ℕ) (pass : Admitted t q area) w
 
     module _ (ps : List Place) (rule4 : placement (x .entries) ≡ some ps) where
       -- The timetable found is by the rules.
-      by-rules : n ≤ q .limit → PassedFirst n 0 plan → ByRules q (plan .entries) (acceptedAs q n (placed x ps) .timetable)
-      unfolding placed startPlan
+      by-rules : n ≤ q .limit → PassedFirst n 0 plan → ByRules q (plan .entries) (acceptedAs t q n (placed x ps) .timetable)
+      unfolding placed startPlan startsOf shortfallsOf
       by-rules l b = record {
         slot = refl;
         base = refl;
@@ -109,7 +109,11 @@ module _ (t : Timetable) (q : Request) (area : ℕ) (pass : Admitted t q area) w
         placed = subst (λ (es : List Entry). ByRuleFour es (λ i. entryOf (settle (x .entries) ps) i .offset)) walk
             (rule-four-is (x .entries) (fit-here .ranged) (fit-here .entries) ps rule4);
         count = length-settle (x .entries) ps ∙ fit-here .entries;
-        kept = λ i k. at i k (isListed (entryOf (x .entries) i)) refl;
+        start-count = length-map (plan .entries) (λ (e : Entry). e .shortfall) ∙ fit .entries;
+        starts = λ i k. start-of t q i;
+        kept = λ i k.
+            settle-kept (x .entries) (fit-here .ranged) (fit-here .entries) ps rule4 i k
+            ∙ ap (λ (es : List Entry). withOffset (entryOf (settle (x .entries) ps) i .offset) (entryOf es i)) walk;
         blank = λ i k z.
             let u = unlisted i k z in
             settle-unlisted (x .entries) (fit-here .ranged) (fit-here .entries) ps rule4 i k u ∙ fit-here .ranged .blank i k u;
@@ -117,18 +121,6 @@ module _ (t : Timetable) (q : Request) (area : ℕ) (pass : Admitted t q area) w
         where
           walk : x .entries ≡ walkedTo (plan .entries) (x .owners) n
           walk = on-the-way n (omega arith) x here
-
-          at : (i : ℕ) → i < IDS → (b : Bool) → isListed (entryOf (x .entries) i) ≡ b
-              → entryOf (settle (x .entries) ps) i
-              ≡ withOffset (entryOf (settle (x .entries) ps) i .offset) (entryOf (walkedTo (plan .entries) (x .owners) n) i)
-          at i k true e =
-              settle-entry (x .entries) (fit-here .ranged) (fit-here .entries) ps rule4 i k e
-              ∙ ap (λ (es : List Entry). withOffset (entryOf (settle (x .entries) ps) i .offset) (entryOf es i)) walk
-          at i k false e =
-              let z = settle-unlisted (x .entries) (fit-here .ranged) (fit-here .entries) ps rule4 i k e in
-              z
-              ∙ ap (λ (o : ℕ). withOffset o (entryOf (x .entries) i)) (ap (λ (y : Entry). y .offset) (sym z))
-              ∙ ap (λ (es : List Entry). withOffset (entryOf (settle (x .entries) ps) i .offset) (entryOf es i)) walk
 
           unlisted : (i : ℕ) → i < IDS → askOf (q .asks) i .period ≡ 0 → isListed (entryOf (x .entries) i) ≡ false
           unlisted i k z = ap isListed (walked plan fit n small x here i k) ∙ ap isListed (at-request t q .blank i k z)

@@ -1,7 +1,7 @@
 -- What is there is granted: going on with the present slots is a cyclic placement from the shortfalls at any slot from the base on, and placement is complete;
 -- the weights sum to at most 256, because no slot serves two. Assumes nothing.
 use lib.ListN.{length}
-use mathlib.Core.Bool.{Bool, true, false}
+use mathlib.Core.Bool.{Bool, true, false, cond}
 use mathlib.Core.List.{List}
 use mathlib.Core.Option.{Option, none, some}
 use mathlib.Core.Path.{_≡_, refl, sym, ap, _∙_, subst}
@@ -30,11 +30,12 @@ use Rattle.slots.specs.Limits.{AREA, IDS, WHOLE}
 use Rattle.timetable.proofs.Onward.{ahead, ahead-inside, cyclic-onward, kept-onward, onward}
 use Rattle.timetable.proofs.Ranges.{InRange}
 use Rattle.timetable.proofs.Shares.{weight-blank, slices-blank, slices-fit, slices-weight, slicesSum}
+use Rattle.timetable.proofs.Since.{start-cycle}
 use Rattle.timetable.proofs.Sound.{Sound, sound-from}
 use Rattle.timetable.specs.declared.Entry.{Entry}
 use Rattle.timetable.specs.declared.Timetable.{Timetable}
 use Rattle.timetable.specs.Sound.{isSound}
-use Rattle.timetable.specs.Timetable.{cyclic, entryOf, isListed, noEntry, shortfallAfter, slicesAfter, weight, withOffset}
+use Rattle.timetable.specs.Timetable.{cyclic, entryOf, isListed, noEntry, shortfallAfter, slicesAfter, startShortfall, weight, withOffset}
 use Rattle.transition.proofs.Plans.{Fit}
 use Rattle.transition.proofs.Search.{search-found}
 use Rattle.transition.specs.Transition.{ended, placed}
@@ -43,7 +44,8 @@ use Rattle.transition.specs.Transition.{ended, placed}
 abbrev pub asThere : Entry → Ask
 asThere e = record { period = e .period; bound = 0 }
 
-module _ (t : Timetable) (s : Sound t) (q : Request) (same : (i : ℕ) → i < IDS → askOf (q .asks) i ≡ asThere (entryOf (t .entries) i)) where
+module _ (t : Timetable) (s : Sound t) (q : Request) (later : t .base .0 ≤ q .slot .0)
+    (same : (i : ℕ) → i < IDS → askOf (q .asks) i ≡ asThere (entryOf (t .entries) i)) where
   -- The slots from the base to the request slot.
   abbrev n : ℕ
   n = q .slot .0 - t .base .0
@@ -59,11 +61,13 @@ module _ (t : Timetable) (s : Sound t) (q : Request) (same : (i : ℕ) → i < I
   -- A listed id enters with its period and its R, and any other is blank.
   start-there : (i : ℕ) → i < IDS → isListed (old i) ≡ true → entryOf es i ≡ withOffset 0 (onward (old i) n)
   unfolding entering askedBound boundBefore
-  start-there i k l = start-at t (q .slot) (q .asks) i k ∙ ap (entering (old i) n) (same i k) ∙ rw l
+  start-there i k l =
+      start-at t (q .slot) (q .asks) i k ∙ ap (λ (x : ℕ). entering (old i) x (askOf (q .asks) i)) (sym (start-cycle t s i k (q .slot) later))
+      ∙ ap (entering (old i) (cond (isListed (old i)) (shortfallAfter (old i) n) 0)) (same i k) ∙ rw l
 
   start-absent : (i : ℕ) → i < IDS → isListed (old i) ≡ false → entryOf es i ≡ noEntry
   unfolding entering
-  start-absent i k l = start-at t (q .slot) (q .asks) i k ∙ ap (entering (old i) n) (same i k) ∙ rw l
+  start-absent i k l = start-at t (q .slot) (q .asks) i k ∙ ap (entering (old i) (startShortfall t (q .slot) i)) (same i k) ∙ rw l
 
   -- Who is listed stays so.
   same-listed : (i : ℕ) → i < IDS → isListed (entryOf es i) ≡ true → isListed (old i) ≡ true
@@ -94,7 +98,7 @@ module _ (t : Timetable) (s : Sound t) (q : Request) (same : (i : ℕ) → i < I
 
   -- Nobody is behind, for every field is short.
   none-behind : (i : ℕ) → i < IDS → Behind (entryOf es i) → ⊥
-  none-behind i k = short-kept t s (q .slot) (q .asks) i k (ap (λ (a : Ask). a .bound) (same i k))
+  none-behind i k = short-kept t s (q .slot) later (q .asks) i k (ap (λ (a : Ask). a .bound) (same i k))
 
   -- The weights are the slices of one cycle.
   weights : (m : ℕ) → m ≤ IDS → weightSum es m ≡ slicesSum (t .entries) m WHOLE
@@ -123,7 +127,7 @@ module _ (t : Timetable) (s : List ℕ) (area : ℕ) (z : isSound t ≡ true) (s
   there-passes =
       let x = sound-from t z in
       passed Passed (passed Passed (sound z) (passed Passed (enough size) (passed Passed (whole read) (in-time later))))
-      (passed Passed (fits (not-over t x asked same)) (keep-up (none-behind t x asked same)))
+      (passed Passed (fits (not-over t x asked later same)) (keep-up (none-behind t x asked later same)))
 
   there-verdict : verdictBefore t (readRequest s) area ≡ Passed
   there-verdict = stages t (readRequest s) area .only Passed there-passes
@@ -139,12 +143,12 @@ module _ (t : Timetable) (s : List ℕ) (area : ℕ) (z : isSound t ≡ true) (s
     where
       at : (o : Option (List Place)) → placement (startPlan t asked .entries) ≡ o → (ps : List Place) × (placement (startPlan t asked .entries) ≡ some ps)
       at none e =
-          absurd (placement-none (startPlan t asked .entries) (there-fit .ranged) e (λ i. ahead (entryOf (t .entries) i) (asked .slot .0 - t .base .0)) (going-on t (sound-from t z) asked same))
+          absurd (placement-none (startPlan t asked .entries) (there-fit .ranged) e (λ i. ahead (entryOf (t .entries) i) (asked .slot .0 - t .base .0)) (going-on t (sound-from t z) asked later same))
       at (some ps) e = (ps, e)
 
   module _ (ps : List Place) (rule4 : placement (startPlan t asked .entries) ≡ some ps) where
     -- So it is accepted with length 0,
-    there-answer : answer t s area ≡ acceptedAs asked 0 (placed (startPlan t asked) ps)
+    there-answer : answer t s area ≡ acceptedAs t asked 0 (placed (startPlan t asked) ps)
     unfolding answer answerTo searchOf answerOf numberOf placeOf timetableOf ended
     there-answer =
         ap (λ (v : Verdict). elim v [ Passed ↦ answerOf t asked (searchOf t asked) | Refused r ↦ refuse t r ]) there-verdict
@@ -169,11 +173,11 @@ module _ (t : Timetable) (s : List ℕ) (area : ℕ) (z : isSound t ≡ true) (s
         at : (b : Bool) → isListed (entryOf (t .entries) i) ≡ b
             → (entryOf (settle es ps) i .period ≡ entryOf (t .entries) i .period) × (entryOf (settle es ps) i .bound ≡ entryOf (t .entries) i .bound)
         at true l =
-            let e = start-there t x asked same i k l in
+            let e = start-there t x asked later same i k l in
             let o = entryOf (settle es ps) i .offset in
             share _ _ (settle-entry es (there-fit .ranged) (there-fit .entries) ps rule4 i k (ap isListed e ∙ l) ∙ ap (withOffset o) e)
         at false l =
-            let e = start-absent t x asked same i k l in
+            let e = start-absent t x asked later same i k l in
             share _ _ (settle-unlisted es (there-fit .ranged) (there-fit .entries) ps rule4 i k (ap isListed e) ∙ e ∙ sym (x .ranged .blank i k l))
 
   pub granted : (answer t s area .number ≡ ACCEPTED) × (answer t s area .timetable .length ≡ 0)

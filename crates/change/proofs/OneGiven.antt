@@ -147,6 +147,10 @@ module _ (t : Timetable) (q : Request) (start : List Entry) (s : AtRequest t q s
             i (lists i k (omega arith)) in
             p .kept i k ∙ rw (o, walk-one) (sym (r .kept i k))
 
+    -- And the starts.
+    starts-one : x .starts ≡ y .starts
+    starts-one = ext-getD 0 (x .starts) (y .starts) (p .start-count ∙ sym (r .start-count)) (λ i k. p .starts i (omega (arith, p .start-count)) ∙ sym (r .starts i (omega (arith, p .start-count))))
+
     -- So there is one timetable.
     timetable-one : x ≡ y
     timetable-one =
@@ -155,7 +159,8 @@ module _ (t : Timetable) (q : Request) (start : List Entry) (s : AtRequest t q s
         let c = run-one in
         let d : x .base .0 ≡ y .base .0 = p .base ∙ ap (λ (n : ℕ). q .slot .0 + n) size-one ∙ sym (r .base) in
         let e = entries-one in
-        λ j. record { request = a j; length = b j; owners = c j; base = record { 0 = d j }; entries = e j }
+        let f = starts-one in
+        λ j. record { request = a j; length = b j; owners = c j; base = record { 0 = d j }; entries = e j; starts = f j }
 
 -- ---- the end of a search in vain
 

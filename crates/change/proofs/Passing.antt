@@ -6,7 +6,7 @@ use native.Mathlib.Omega.{arith}
 use Prim.Native.Nat.{ℕ, _≤_}
 use Rattle.change.proofs.Answers.{Admitted, admitted, admitted-fit, Gets, refused, accepted, no-slot, no-length, gets, said}
 use Rattle.change.proofs.Stages.{first-tells}
-use Rattle.change.specs.Change.{startPlan, searchOf, numberOf, placeOf, timetableOf, answerOf, refuse, answerTo, answer}
+use Rattle.change.specs.Change.{shortfallsOf, startPlan, startsOf, searchOf, numberOf, placeOf, newTimetable, timetableOf, answerOf, refuse, answerTo, answer}
 use Rattle.change.specs.Coded.{Holds, GoesInto}
 use Rattle.change.specs.declared.Answer.{Answer}
 use Rattle.change.specs.Refused.{FirstStages, sound, enough, whole, in-time}
@@ -14,6 +14,7 @@ use Rattle.change.specs.Stages.{stagesFirst, stagesListed, verdictBefore
 use Rattle.numbers.proofs.ChainLaws.{split-refused, split-passed}
 use Rattle.numbers.specs.Chain.{firstOf, passed}
 use Rattle.numbers.specs.declared.Refusal.{Refusal}
+use Rattle.numbers.specs.Numbers.{ACCEPTED}
 use Rattle.numbers.specs.declared.Verdict.{Verdict}
 use Rattle.numbers.specs.declared.Verdict.the-variants.{Passed, Refused}
 use Rattle.records.specs.declared.ReadRequest.{ReadRequest}
@@ -54,6 +55,15 @@ pub answer-ended : (t : Timetable) (r : Request) (s : Searched) (e : Ending) →
 unfolding answerOf
 answer-ended t r s e h = ap (endedAs t r s) h
 
+-- One that found a length, with its timetable.
+pub answer-found : (t : Timetable) (r : Request) (s : Searched) (n : ℕ) → s .ending ≡ Found n → (starts : List ℕ) → starts ≡ startsOf t r
+    → (u : Timetable) → u ≡ newTimetable r starts n (s .plan) → _≡_ {A = Answer} (record { number = ACCEPTED; place = 0; tries = s .tries; timetable = u }) (answerOf t r s)
+unfolding numberOf placeOf timetableOf
+answer-found t r s n h starts e u p =
+    ap {B = Answer} (λ (x : Timetable). record { number = ACCEPTED; place = 0; tries = s .tries; timetable = x })
+    (p ∙ ap (λ (x : List ℕ). newTimetable r x n (s .plan)) e)
+    ∙ sym (answer-ended t r s (Found n) h)
+
 -- An answer's record goes into the area for which it was decided.
 pub goes-into : (t : Timetable) (s : List ℕ) (area : ℕ) → GoesInto (answer t s area) area
 goes-into t s area = at (answer t s area) (gets t s area)
@@ -83,6 +93,11 @@ module _ (t : Timetable) (s : List ℕ) (area : ℕ) (read : ReadRequest) (q : r
     listed-next : verdictBefore t read area ≡ firstOf (stagesListed (plan .entries))
     unfolding verdictBefore startPlan
     listed-next = split-passed (stagesFirst t read area) _ e ∙ sym (ap (λ (x : Plan). firstOf (stagesListed (x .entries))) p)
+
+    -- Its starts.
+    pub starts-are : (starts : List ℕ) → starts ≡ shortfallsOf (plan .entries) → starts ≡ startsOf t (read .request)
+    unfolding startsOf
+    starts-are starts h = h ∙ ap (λ (x : Plan). shortfallsOf (x .entries)) p
 
     pub answer-listed : (r : Refusal) → firstOf (stagesListed (plan .entries)) ≡ Refused r → answer t s area ≡ refuse t r
     unfolding given

@@ -62,9 +62,9 @@ module _ (t : Timetable) (x : CoreSlot) where
   module _ (i : ℕ) where
     pub standing-given : StandingGiven t i x (standingQuery t i x)
     unfolding standing
-    standing-given = at (isSound t) refl (decLt i IDS) (decLt LAST-SLOT (x .0)) (decLt (x .0) (t .base .0)) (lists t i) refl
+    standing-given = at (isSound t) refl (decLt i IDS) (decLt LAST-SLOT (x .0)) (decLt (x .0) (t .request .0)) (lists t i) refl
       where
-        at : (b : Bool) → isSound t ≡ b → Dec (i < IDS) → Dec (LAST-SLOT < x .0) → Dec (x .0 < t .base .0) → (c : Bool) → lists t i ≡ c
+        at : (b : Bool) → isSound t ≡ b → Dec (i < IDS) → Dec (LAST-SLOT < x .0) → Dec (x .0 < t .request .0) → (c : Bool) → lists t i ≡ c
             → StandingGiven t i x (standingQuery t i x)
         at false s _ _ _ c l = subst (StandingGiven t i x) (sym (standing-unsound t x i s)) (Queried.not-sound s)
         at true s (no k) _ _ c l = subst (StandingGiven t i x) (sym (standing-no-id t x i s (omega arith))) (Queried.high-id s (omega arith))

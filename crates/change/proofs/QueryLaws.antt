@@ -43,16 +43,16 @@ module _ (t : Timetable) (slot : CoreSlot) where
     unfolding standingQuery
     standing-high s i h = rw (s, lt-leb IDS id i, lt-ltb LAST-SLOT (slot .0) h)
 
-    pub standing-early : isSound t ≡ true → id < IDS → slot .0 ≤ LAST-SLOT → slot .0 < t .base .0 → standingQuery t id slot ≡ refuseStanding TOO-EARLY
+    pub standing-early : isSound t ≡ true → id < IDS → slot .0 ≤ LAST-SLOT → slot .0 < t .request .0 → standingQuery t id slot ≡ refuseStanding TOO-EARLY
     unfolding standingQuery
-    standing-early s i h e = rw (s, lt-leb IDS id i, le-ltb LAST-SLOT (slot .0) h, lt-ltb (slot .0) (t .base .0) e)
+    standing-early s i h e = rw (s, lt-leb IDS id i, le-ltb LAST-SLOT (slot .0) h, lt-ltb (slot .0) (t .request .0) e)
 
-    pub standing-unlisted : isSound t ≡ true → id < IDS → slot .0 ≤ LAST-SLOT → t .base .0 ≤ slot .0 → lists t id ≡ false
+    pub standing-unlisted : isSound t ≡ true → id < IDS → slot .0 ≤ LAST-SLOT → t .request .0 ≤ slot .0 → lists t id ≡ false
         → standingQuery t id slot ≡ refuseStanding NOT-LISTED
     unfolding standingQuery
-    standing-unlisted s i h e l = rw (s, lt-leb IDS id i, le-ltb LAST-SLOT (slot .0) h, le-ltb (slot .0) (t .base .0) e, l)
+    standing-unlisted s i h e l = rw (s, lt-leb IDS id i, le-ltb LAST-SLOT (slot .0) h, le-ltb (slot .0) (t .request .0) e, l)
 
-    pub standing-told : isSound t ≡ true → id < IDS → slot .0 ≤ LAST-SLOT → t .base .0 ≤ slot .0 → lists t id ≡ true
+    pub standing-told : isSound t ≡ true → id < IDS → slot .0 ≤ LAST-SLOT → t .request .0 ≤ slot .0 → lists t id ≡ true
         → standingQuery t id slot ≡ standing t id slot
     unfolding standingQuery
-    standing-told s i h e l = rw (s, lt-leb IDS id i, le-ltb LAST-SLOT (slot .0) h, le-ltb (slot .0) (t .base .0) e, l)
+    standing-told s i h e l = rw (s, lt-leb IDS id i, le-ltb LAST-SLOT (slot .0) h, le-ltb (slot .0) (t .request .0) e, l)

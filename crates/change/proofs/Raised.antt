@@ -30,7 +30,7 @@ module _ (t : Timetable) (read : ReadRequest) (limit : ℕ) where
       → answerOf t (withT limit read .request) (searchOf t (withT limit read .request)) ≡ answerOf t (read .request) (searchOf t (read .request))
   unfolding searchOf startPlan answerOf numberOf
   searched l n =
-      same-slot t (read .request) (withT limit read .request) refl (searchOf t (withT limit read .request))
+      same-slot t (read .request) (withT limit read .request) refl refl (searchOf t (withT limit read .request))
       ∙ ap (answerOf t (read .request))
       (search-raised (read .request .limit) limit 0 (startPlan t (read .request)) l (λ m z. n (ap numberOf z)))
 

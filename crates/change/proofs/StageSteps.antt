@@ -1,16 +1,18 @@
 -- The stages before the search, test by test, as the code makes them. Assumes nothing.
 use borrow.Author.Tests.{lt-ltb, le-ltb, le-leb, lt-leb, eq-eqb, ne-eqb}
 use lib.Dec.{leb, ltb}
-use lib.ListN.{replicate}
-use mathlib.Core.Bool.{Bool, true, false, not}
-use mathlib.Core.List.{List}
+use lib.ListN.{length, length-map, replicate, List·getD-map}
+use lib.Seq.{ext-getD}
+use mathlib.Core.Bool.{Bool, true, false, cond, not}
+use mathlib.Core.List.{List, map}
 use mathlib.Core.Logic.{_≢_}
 use mathlib.Core.Option.{none}
-use mathlib.Core.Path.{_≡_, sym, ap, ap₂}
+use mathlib.Core.Path.{_≡_, sym, ap, ap₂, _∙_}
 use native.Mathlib.Decide.{decLe}
 use native.Mathlib.Numerals.{add-one}
 use native.Mathlib.Omega.{arith}
 use Prim.Native.Nat.{ℕ, suc, _+_, _*_, _≤_, _<_}
+use Rattle.change.specs.Change.{shortfallsOf}
 use Rattle.change.specs.Stages.{askedBound, boundBefore, entering, weightSum, overfull, isBehind, behind, stageOverfull, stageBehind}
 use Rattle.numbers.specs.Chain.{refusedAt}
 use Rattle.numbers.specs.declared.Verdict.the-variants.{Passed, Refused}
@@ -18,16 +20,15 @@ use Rattle.numbers.specs.Numbers.{OVERFULL, BEHIND, refusal}
 use Rattle.records.specs.declared.Ask.{Ask}
 use Rattle.records.specs.Request.{askOf}
 use Rattle.slots.specs.Below.{first}
+use Rattle.slots.specs.declared.CoreSlot.{CoreSlot}
 use Rattle.slots.specs.Limits.{IDS, WHOLE}
 use Rattle.slots.specs.Shortfall.{keeps, weightOf}
 use Rattle.timetable.proofs.EntryLaws.{weight-le}
-use Rattle.timetable.proofs.Ranges.{in-range-is}
+use Rattle.timetable.proofs.Filling.{Filled}
 use Rattle.timetable.proofs.ScanLaws.{first-more, first-end, first-here}
-use Rattle.timetable.proofs.Sound.{sound-from}
 use Rattle.timetable.specs.declared.Entry.{Entry}
 use Rattle.timetable.specs.declared.Timetable.{Timetable}
-use Rattle.timetable.specs.Sound.{entryInRange, isSound}
-use Rattle.timetable.specs.Timetable.{noEntry, entryOf, entersWith, isListed, weight, each, shortfallAfter}
+use Rattle.timetable.specs.Timetable.{noEntry, entryOf, isListed, weight, each, shortfallAfter, startShortfall}
 
 -- ---- one entry
 
@@ -47,33 +48,39 @@ pub given-bound : (old : Entry) (a : Ask) → a .bound ≢ 0 → a .bound ≡ as
 unfolding askedBound
 given-bound old a e = rw (ne-eqb (a .bound) 0 e)
 
+-- The shortfall with which an entry enters a change n slots after the base.
+abbrev pub entersWith : Entry → ℕ → ℕ
+entersWith e n = cond (isListed e) (shortfallAfter e n) 0
+
 pub listed-shortfall : (old : Entry) (n s : ℕ) → isListed old ≡ true → s ≡ shortfallAfter old n → s ≡ entersWith old n
 listed-shortfall old n s l e = rw l e
 
 pub new-shortfall : (old : Entry) (n s : ℕ) → isListed old ≡ false → s ≡ 0 → s ≡ entersWith old n
 new-shortfall old n s l e = rw l e
 
-pub enter-none : (old : Entry) (n : ℕ) (ask : Ask) → ask .period ≡ 0 → noEntry ≡ entering old n ask
+pub enter-none : (old : Entry) (start : ℕ) (ask : Ask) → ask .period ≡ 0 → noEntry ≡ entering old start ask
 unfolding entering
-enter-none old n ask e = rw (le-ltb 0 (ask .period) (omega (arith, e)))
+enter-none old start ask e = rw (le-ltb 0 (ask .period) (omega (arith, e)))
 
-pub enter-asked : (old : Entry) (n : ℕ) (ask : Ask) (b s : ℕ) → ask .period ≢ 0 → b ≡ askedBound old ask
-    → s ≡ entersWith old n
-    → _≡_ {A = Entry} (record { period = ask .period; offset = 0; bound = b; shortfall = s }) (entering old n ask)
+pub enter-asked : (old : Entry) (start : ℕ) (ask : Ask) (b s : ℕ) → ask .period ≢ 0 → b ≡ askedBound old ask
+    → s ≡ start
+    → _≡_ {A = Entry} (record { period = ask .period; offset = 0; bound = b; shortfall = s }) (entering old start ask)
 unfolding entering
-enter-asked old n ask b s h p q =
+enter-asked old start ask b s h p q =
     rw (lt-ltb 0 (ask .period) (omega (arith, h))) (λ i. record { period = ask .period; offset = 0; bound = p i; shortfall = q i })
-
--- A listed entry of a sound timetable is in range.
-pub listed-in-range : (t : Timetable) → isSound t ≡ true → (i : ℕ) → i < IDS → isListed (entryOf (t .entries) i) ≡ true
-    → entryInRange (entryOf (t .entries) i) ≡ true
-listed-in-range t s i k l = in-range-is (entryOf (t .entries) i) (sound-from t s .ranged .listed i k l)
 
 -- ---- all entries
 
 -- The entries below an id have entered.
-abbrev pub entered : Timetable → List Ask → ℕ → ℕ → List Entry
-entered t asks n id = each (λ i e. entering (entryOf (t .entries) i) n (askOf asks i)) id (replicate IDS noEntry)
+abbrev pub entered : Timetable → CoreSlot → List Ask → ℕ → List Entry
+entered t slot asks id = each (λ i e. entering (entryOf (t .entries) i) (startShortfall t slot i) (askOf asks i)) id (replicate IDS noEntry)
+
+-- Once the shortfall of each id is put in, the list is that of the shortfalls.
+pub shortfalls-all : (es : List Entry) → length es ≡ IDS → (n : ℕ) (l : List ℕ) → IDS ≤ n → Filled (λ i. entryOf es i .shortfall) n l → l ≡ shortfallsOf es
+unfolding shortfallsOf
+shortfalls-all es len n l a h =
+    ext-getD 0 l (map (λ (e : Entry). e .shortfall) es) (h .count ∙ sym (length-map es (λ (e : Entry). e .shortfall) ∙ len))
+    (λ i k. h .below i (omega (arith, h .count)) ∙ sym (List·getD-map (λ (e : Entry). e .shortfall) es i noEntry))
 
 -- ---- a stage that names an id
 

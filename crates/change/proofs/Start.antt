@@ -1,16 +1,16 @@
 -- The plan of length 0 of a request that passed the stages is fit: what was read is in range, and nobody is behind. Assumes nothing.
 use borrow.Author.Tests.{ltb-true}
 use lib.Dec.{ltb}
-use lib.ListN.{getD, length, replicate, length-replicate, getD-replicate, List·getD-eq-default}
+use lib.ListN.{getD, length, replicate, length-replicate, getD-replicate, List·getD-eq-default, List·getD-map}
 use mathlib.Core.Bool.{Bool, true, false}
 use mathlib.Core.List.{List}
 use mathlib.Core.Logic.{inl, inr}
 use mathlib.Core.Path.{_≡_, refl, sym, ap, _∙_, subst}
 use native.Mathlib.Decide.{ℕ-discrete, decLt}
 use native.Mathlib.Omega.{arith}
-use Prim.Native.Nat.{ℕ, _+_, _-_, _*_, _≤_, _<_}
+use Prim.Native.Nat.{ℕ, _+_, _*_, _≤_, _<_}
 use Rattle.change.proofs.StageSteps.{given-bound, listed-bound, new-bound, short-bound}
-use Rattle.change.specs.Change.{startPlan}
+use Rattle.change.specs.Change.{shortfallsOf, startPlan, startsOf}
 use Rattle.change.specs.Refused.{Behind}
 use Rattle.change.specs.Stages.{askedBound, boundBefore, entering, startEntries}
 use Rattle.records.proofs.ReadLaws.{AskRange, AsksRange, RequestRange}
@@ -53,14 +53,14 @@ module _ (t : Timetable) (slot : CoreSlot) (asks : List Ask) where
   unfolding startEntries
   length-start = length-each _ IDS (replicate IDS noEntry) ∙ length-replicate IDS noEntry
 
-  pub start-at : (i : ℕ) → i < IDS → entryOf (startEntries t slot asks) i ≡ entering (entryOf (t .entries) i) (slot .0 - t .base .0) (askOf asks i)
+  pub start-at : (i : ℕ) → i < IDS → entryOf (startEntries t slot asks) i ≡ entering (entryOf (t .entries) i) (startShortfall t slot i) (askOf asks i)
   unfolding startEntries
   start-at i k = each-at _ IDS (replicate IDS noEntry) (omega (arith, length-replicate IDS noEntry)) i k
 
   -- An id that starts listed was asked for.
   pub start-listed : (i : ℕ) → i < IDS → isListed (entryOf (startEntries t slot asks) i) ≡ true
       → (0 < askOf asks i .period) × (entryOf (startEntries t slot asks) i ≡ asked t slot i (askOf asks i))
-  unfolding entering startShortfall
+  unfolding entering
   start-listed i k l = at (ltb 0 (askOf asks i .period)) refl
     where
       at : (b : Bool) → ltb 0 (askOf asks i .period) ≡ b
@@ -70,7 +70,7 @@ module _ (t : Timetable) (slot : CoreSlot) (asks : List Ask) where
 
   -- An id that does not is blank.
   start-blank : (i : ℕ) → i < IDS → isListed (entryOf (startEntries t slot asks) i) ≡ false → entryOf (startEntries t slot asks) i ≡ noEntry
-  unfolding entering startShortfall
+  unfolding entering
   start-blank i k l = at (ltb 0 (askOf asks i .period)) refl
     where
       at : (b : Bool) → ltb 0 (askOf asks i .period) ≡ b → entryOf (startEntries t slot asks) i ≡ noEntry
@@ -118,6 +118,11 @@ zeros n k = at (decLt k n)
     at : Dec (k < n) → _≡_ {A = ℕ} (getD (replicate n 0) k 0) 0
     at (yes h) = getD-replicate {A = ℕ} n k 0 0 h
     at (no h) = List·getD-eq-default {A = ℕ} (replicate n 0) 0 {n = k} (omega (arith, length-replicate {A = ℕ} n 0))
+
+-- A start is the shortfall of the entry at the request slot.
+pub start-of : (t : Timetable) (r : Request) (i : ℕ) → getD (startsOf t r) i 0 ≡ entryOf (startPlan t r .entries) i .shortfall
+unfolding startsOf shortfallsOf
+start-of t r i = List·getD-map (λ (e : Entry). e .shortfall) (startPlan t r .entries) i noEntry
 
 -- The plan of length 0 is fit.
 pub start-fit : (t : Timetable) (r : Request) → Ranged (t .entries) → RequestRange r

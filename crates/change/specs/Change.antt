@@ -3,7 +3,7 @@ use lib.Dec.{eqb}
 use lib.ListN.{length, replicate}
 use lib.Seq.{sets}
 use mathlib.Core.Bool.{cond}
-use mathlib.Core.List.{List, []}
+use mathlib.Core.List.{List, [], map}
 use Prim.Native.Nat.{ℕ, _+_}
 use Rattle.change.specs.declared.Answer.{Answer}
 use Rattle.change.specs.declared.Outcome.{Outcome}
@@ -17,6 +17,7 @@ use Rattle.records.specs.declared.Request.{Request}
 use Rattle.records.specs.Request.{readRequest}
 use Rattle.slots.specs.Clocks.{coreSlot}
 use Rattle.slots.specs.Limits.{LONGEST}
+use Rattle.timetable.specs.declared.Entry.{Entry}
 use Rattle.timetable.specs.declared.Timetable.{Timetable}
 use Rattle.transition.specs.declared.Ending.{Ending}
 use Rattle.transition.specs.declared.Ending.the-variants.{Found, Missed, Exhausted}
@@ -36,25 +37,34 @@ placeOf (Found n) = 0
 placeOf (Missed n) = n
 placeOf (Exhausted n) = n
 
--- The new timetable: the request slot, the transition, and its base, request slot + length.
-abbrev pub newTimetable : Request → ℕ → Plan → Timetable
-newTimetable r n plan = record {
+-- The shortfalls of the entries, by id.
+unfoldable pub shortfallsOf : List Entry → List ℕ
+shortfallsOf es = map (λ (e : Entry). e .shortfall) es
+
+-- The plan of length 0: no transition slot, and the shortfalls at the request slot.
+unfoldable pub startPlan : Timetable → Request → Plan
+startPlan t r = record { owners = replicate LONGEST 0; entries = startEntries t (r .slot) (r .asks) }
+
+-- The starts of a request: the shortfalls in the plan of length 0.
+unfoldable pub startsOf : Timetable → Request → List ℕ
+startsOf t r = shortfallsOf (startPlan t r .entries)
+
+-- The new timetable: the request slot, the transition, its base, request slot + length, and the starts.
+abbrev pub newTimetable : Request → List ℕ → ℕ → Plan → Timetable
+newTimetable r starts n plan = record {
   request = r .slot;
   length = n;
   owners = plan .owners;
   base = coreSlot (r .slot .0 + n);
   entries = plan .entries;
+  starts = starts;
 }
 
 -- The timetable after an ending: the new one, or the one as given.
 unfoldable pub timetableOf : Timetable → Request → Plan → Ending → Timetable
-timetableOf t r plan (Found n) = newTimetable r n plan
+timetableOf t r plan (Found n) = newTimetable r (startsOf t r) n plan
 timetableOf t r plan (Missed n) = t
 timetableOf t r plan (Exhausted n) = t
-
--- The plan of length 0: no transition slot, and the shortfalls at the request slot.
-unfoldable pub startPlan : Timetable → Request → Plan
-startPlan t r = record { owners = replicate LONGEST 0; entries = startEntries t (r .slot) (r .asks) }
 
 -- The search of a request that passed the stages before: lengths 0 to T.
 unfoldable pub searchOf : Timetable → Request → Searched

@@ -19,7 +19,7 @@ use Rattle.records.specs.Request.{askOf}
 use Rattle.slots.specs.Limits.{IDS, LONGEST}
 use Rattle.timetable.specs.declared.Entry.{Entry}
 use Rattle.timetable.specs.declared.Timetable.{Timetable}
-use Rattle.timetable.specs.Timetable.{entryOf, isListed, noEntry, startShortfall, withOffset}
+use Rattle.timetable.specs.Timetable.{entryOf, isListed, noEntry, startOf, startShortfall, withOffset}
 use Rattle.transition.specs.Reach.{AnyoneBreaks}
 use Rattle.transition.specs.RuleThree.{ByRuleThree, walkedTo}
 
@@ -59,6 +59,9 @@ pub record ByRules (q : Request) (start : List Entry) (t : Timetable) : Type 0 w
   pub unused : (k : ℕ) → t .length ≤ k → getD (t .owners) k 0 ≡ 0
   -- rule 4: the offsets, from the entries walked to the base
   pub placed : ByRuleFour (walkedTo start (t .owners) (t .length)) (λ i. entryOf (t .entries) i .offset)
+  -- the starts: the shortfalls at the request slot
+  pub start-count : length (t .starts) ≡ IDS
+  pub starts : (i : ℕ) → i < IDS → startOf t i ≡ entryOf start i .shortfall
   -- each entry is the one walked to the base, at its offset, and blank where the record does not list the id
   pub count : length (t .entries) ≡ IDS
   pub kept : (i : ℕ) → i < IDS → entryOf (t .entries) i ≡ withOffset (entryOf (t .entries) i .offset) (entryOf (walkedTo start (t .owners) (t .length)) i)

@@ -29,13 +29,13 @@ pub data OwnerGiven (t : Timetable) (x : CoreSlot) : OwnerAnswer → Type 0 wher
 abbrev pub standingAnswer : ℕ → ℕ → SliceCount → StandingAnswer
 standingAnswer number shortfall slices = record { number = number; place = 0; shortfall = shortfall; slices = slices }
 
--- What the standing query gets for an id and a slot: 1, 4 for the id or the slot, 6 before the base, 10; or the shortfall and the slices.
+-- What the standing query gets for an id and a slot: 1, 4 for the id or the slot, 6 before the last accepted request slot, 10; or the shortfall and the slices.
 pub data StandingGiven (t : Timetable) (i : ℕ) (x : CoreSlot) : StandingAnswer → Type 0 where
   not-sound : isSound t ≡ false → StandingGiven t i x (standingAnswer NOT-SOUND 0 (sliceCount 0))
   high-id : isSound t ≡ true → IDS ≤ i → StandingGiven t i x (standingAnswer OUT-OF-RANGE 0 (sliceCount 0))
   high-slot : isSound t ≡ true → i < IDS → LAST-SLOT < x .0 → StandingGiven t i x (standingAnswer OUT-OF-RANGE 0 (sliceCount 0))
-  early : isSound t ≡ true → i < IDS → x .0 ≤ LAST-SLOT → x .0 < t .base .0 → StandingGiven t i x (standingAnswer TOO-EARLY 0 (sliceCount 0))
-  unlisted : isSound t ≡ true → i < IDS → x .0 ≤ LAST-SLOT → t .base .0 ≤ x .0 → lists t i ≡ false
+  early : isSound t ≡ true → i < IDS → x .0 ≤ LAST-SLOT → x .0 < t .request .0 → StandingGiven t i x (standingAnswer TOO-EARLY 0 (sliceCount 0))
+  unlisted : isSound t ≡ true → i < IDS → x .0 ≤ LAST-SLOT → t .request .0 ≤ x .0 → lists t i ≡ false
       → StandingGiven t i x (standingAnswer NOT-LISTED 0 (sliceCount 0))
-  stands : isSound t ≡ true → i < IDS → x .0 ≤ LAST-SLOT → t .base .0 ≤ x .0 → lists t i ≡ true
+  stands : isSound t ≡ true → i < IDS → x .0 ≤ LAST-SLOT → t .request .0 ≤ x .0 → lists t i ≡ true
       → StandingGiven t i x (standingAnswer ACCEPTED (shortfallAt t i x) (slicesAt t i x))

@@ -29,7 +29,7 @@ ownerQuery t slot =
 abbrev pub refuseStanding : ℕ → StandingAnswer
 refuseStanding number = record { number = number; place = 0; shortfall = 0; slices = sliceCount 0 }
 
--- The standing of id i at a slot: the shortfall at the slot's start and the slices had from the base up to there.
+-- The standing of id i at a slot: the shortfall at the slot's start and the slices had from the request slot up to there.
 unfoldable pub standing : Timetable → ℕ → CoreSlot → StandingAnswer
 standing t i slot = record {
   number = ACCEPTED;
@@ -38,11 +38,11 @@ standing t i slot = record {
   slices = slicesAt t i slot;
 }
 
--- Standing query (id, slot): refuses 1, 4 (id or slot), 6 (slot before the base), 10.
+-- Standing query (id, slot): refuses 1, 4 (id or slot), 6 (slot before the last accepted request slot), 10.
 unfoldable pub standingQuery : Timetable → ℕ → CoreSlot → StandingAnswer
 standingQuery t i slot =
     cond (not (isSound t)) (refuseStanding NOT-SOUND)
     (cond (leb IDS i) (refuseStanding OUT-OF-RANGE)
     (cond (ltb LAST-SLOT (slot .0)) (refuseStanding OUT-OF-RANGE)
-    (cond (ltb (slot .0) (t .base .0)) (refuseStanding TOO-EARLY)
+    (cond (ltb (slot .0) (t .request .0)) (refuseStanding TOO-EARLY)
     (cond (not (lists t i)) (refuseStanding NOT-LISTED) (standing t i slot)))))

@@ -2,7 +2,7 @@
 ghost use lib.ListN.{length};
 ghost use mathlib.Core.Path.{_≡_};
 ghost use Prim.Native.Nat.{_≤_};
-ghost use Rattle.change.specs.Change.{newTimetable, answerOf, refuse, outcomeOf, written};
+ghost use Rattle.change.specs.Change.{startsOf, newTimetable, answerOf, refuse, outcomeOf, written};
 ghost use Rattle.change.specs.Coded.{GoesInto, Holds};
 ghost use Rattle.slots.specs.Limits.{LAST-SLOT, LONGEST};
 use crate::Answer;
@@ -27,9 +27,14 @@ pub fn refuse(t: Timetable, r: Refusal) -> Answer
     }
 }
 
-// The answer of a search: the new timetable, or the refusal for want of a schedule.
-pub fn finish(t: Timetable, asked: Request, found: Searched) -> Answer
-    requires { ⌜ Holds asked found ⌝ }
+// The answer of a search, with the starts of the request: the new timetable, or the refusal for want of a schedule.
+pub fn finish(
+    t: Timetable,
+    asked: Request,
+    starts: [u16; Timetable::IDS],
+    found: Searched,
+) -> Answer
+    requires { ⌜ Holds asked found × (starts ≡ startsOf t asked) ⌝ }
     ensures { λ r. ⌜ r ≡ answerOf t asked found ⌝ }
 {
     let ending = found.ending;
@@ -40,17 +45,17 @@ pub fn finish(t: Timetable, asked: Request, found: Searched) -> Answer
             number: Refusal::ACCEPTED,
             place: 0,
             tries,
-            timetable: new_timetable(asked, n, plan),
+            timetable: new_timetable(asked, starts, n, plan),
         },
         Ending::Missed(n) => no_schedule(t, Refusal::SLOT_MISSED, n, tries),
         Ending::Exhausted(n) => no_schedule(t, Refusal::LENGTHS_EXHAUSTED, n, tries),
     }
 }
 
-// The new timetable: the request slot, the transition, and its base, request slot + length.
-fn new_timetable(asked: Request, n: u8, plan: Plan) -> Timetable
+// The new timetable: the request slot, the transition, its base, request slot + length, and the starts.
+fn new_timetable(asked: Request, starts: [u16; Timetable::IDS], n: u8, plan: Plan) -> Timetable
     requires { ⌜ (n ≤ LONGEST) × (asked .slot .0 ≤ LAST-SLOT) ⌝ }
-    ensures { λ r. ⌜ r ≡ newTimetable asked n plan ⌝ }
+    ensures { λ r. ⌜ r ≡ newTimetable asked starts n plan ⌝ }
 {
     let request = asked.slot;
     let owners = plan.owners;
@@ -62,6 +67,7 @@ fn new_timetable(asked: Request, n: u8, plan: Plan) -> Timetable
         owners,
         base,
         entries,
+        starts,
     }
 }
 

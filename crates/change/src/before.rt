@@ -1,12 +1,12 @@
 // The stages before the search, in the order of docs/RULES.md 7.2: an unsound timetable, a small area, the fields, then 6, 7 and 8. The lowest stage wins.
-ghost use mathlib.Core.Bool.{true};
+ghost use mathlib.Core.Bool.{true, cond};
 ghost use mathlib.Core.Path.{_≡_};
 ghost use Prim.Native.Nat.{_≤_};
-ghost use Rattle.change.specs.Change.{startPlan};
+ghost use Rattle.change.specs.Change.{shortfallsOf, startPlan};
 ghost use Rattle.change.specs.Stages.{askedBound, boundBefore, entering, isBehind, stageOverfull, stageBehind, stagesFirst, stagesListed};
 ghost use Rattle.numbers.specs.Chain.{firstOf};
 ghost use Rattle.timetable.specs.Sound.{entryInRange, isSound};
-ghost use Rattle.timetable.specs.Timetable.{isListed};
+ghost use Rattle.timetable.specs.Timetable.{isListed, shortfallAfter};
 use numbers::Refusal;
 use numbers::Verdict;
 use records::Ask;
@@ -60,6 +60,20 @@ pub fn start_plan(t: Timetable, asked: Request) -> Plan
     }
 }
 
+// The shortfalls of the entries, by id.
+pub fn shortfalls(entries: [Entry; Timetable::IDS]) -> [u16; Timetable::IDS]
+    ensures { λ r. ⌜ r ≡ shortfallsOf entries ⌝ }
+{
+    let mut shortfalls = [0; Timetable::IDS];
+    let mut id: usize = 0;
+    while id < Timetable::IDS {
+        let e = entries[id];
+        shortfalls[id] = e.shortfall;
+        id += 1;
+    }
+    shortfalls
+}
+
 // Stages 7 and 8, over the entries at the request slot.
 pub fn verdict_listed(entries: [Entry; Timetable::IDS]) -> Verdict
     ensures { λ r. ⌜ r ≡ firstOf (stagesListed entries) ⌝ }
@@ -73,7 +87,7 @@ pub fn verdict_listed(entries: [Entry; Timetable::IDS]) -> Verdict
 // The entry with which an id enters the change: the new period and bound, with the shortfall that it has; nothing where it is not asked for.
 fn enter(old: Entry, elapsed: u64, ask: Ask) -> Entry
     requires { ⌜ (isListed old ≡ true → entryInRange old ≡ true) ⌝ }
-    ensures { λ r. ⌜ r ≡ entering old elapsed ask ⌝ }
+    ensures { λ r. ⌜ r ≡ entering old (cond (isListed old) (shortfallAfter old elapsed) 0) ask ⌝ }
 {
     if ask.period == 0 {
         return Entry::none();

@@ -33,7 +33,7 @@ pub struct OwnerAnswer {
     pub owner: u8,
 }
 
-// What the standing query gets: the shortfall at the slot's start, and the slices had from the base up to there.
+// What the standing query gets: the shortfall at the slot's start, and the slices had from the request slot up to there.
 pub struct StandingAnswer {
     pub number: u8,
     pub place: usize,
@@ -65,6 +65,7 @@ pub fn decide(t: Timetable, request: &[u8], area: usize) -> Answer
     if let Verdict::Refused(r) = listed {
         return answering::refuse(t, r);
     }
+    let starts = before::shortfalls(entries);
     let found = transition::lengths::search(plan, asked.limit);
-    answering::finish(t, asked, found)
+    answering::finish(t, asked, starts, found)
 }

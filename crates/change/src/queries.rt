@@ -45,7 +45,7 @@ fn refuse_owner(number: u8) -> OwnerAnswer
     }
 }
 
-// The shortfall of an id at a slot's start, and the slices it has had from the base up to there.
+// The shortfall of an id at a slot's start, from the last accepted request slot on, and the slices it has had from there up to the slot.
 pub fn standing_query(t: Timetable, id: u8, slot: CoreSlot) -> StandingAnswer
     ensures { λ r. ⌜ r ≡ standingQuery t id slot ⌝ }
 {
@@ -58,7 +58,7 @@ pub fn standing_query(t: Timetable, id: u8, slot: CoreSlot) -> StandingAnswer
     if Timetable::LAST_SLOT < slot.0 {
         return refuse_standing(Refusal::OUT_OF_RANGE);
     }
-    if slot.0 < t.base.0 {
+    if slot.0 < t.request.0 {
         return refuse_standing(Refusal::TOO_EARLY);
     }
     if !t.lists(id) {
@@ -67,16 +67,13 @@ pub fn standing_query(t: Timetable, id: u8, slot: CoreSlot) -> StandingAnswer
     standing(t, id, slot)
 }
 
-// The standing of a listed id at a slot from the base on.
+// The standing of a listed id at a slot from the request slot on.
 fn standing(t: Timetable, id: u8, slot: CoreSlot) -> StandingAnswer
-    requires { ⌜ (isSound t ≡ true) × (id < IDS) × (lists t id ≡ true) × (t .base .0 ≤ slot .0) ⌝ }
+    requires { ⌜ (isSound t ≡ true) × (id < IDS) × (lists t id ≡ true) × (t .request .0 ≤ slot .0) ⌝ }
     ensures { λ r. ⌜ r ≡ standing t id slot ⌝ }
 {
-    let i = id as usize;
-    let e = t.entries[i];
-    let elapsed = slot.0 - t.base.0;
-    let shortfall = e.shortfall_after(elapsed);
-    let slices = e.slices_after(elapsed);
+    let shortfall = t.shortfall_at(id, slot);
+    let slices = t.slices_at(id, slot);
     StandingAnswer {
         number: Refusal::ACCEPTED,
         place: 0,

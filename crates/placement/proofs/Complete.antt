@@ -161,6 +161,14 @@ module _ (es : List Entry) (r : Ranged es) (size : length es ≡ IDS) (ps : List
           let z : d .0 .id ≡ i = sym (d .2 .0) ∙ e in
           true-false (subst (λ (x : ℕ). isListed (entryOf es x) ≡ true) z (asked es (d .0) (d .1) .listed .1)) l
 
+  -- So of every id nothing but the offset changes.
+  pub settle-kept : (i : ℕ) → i < IDS → entryOf (settle es ps) i ≡ withOffset (entryOf (settle es ps) i .offset) (entryOf es i)
+  settle-kept i k = at (decided (isListed (entryOf es i)))
+    where
+      at : (isListed (entryOf es i) ≡ true) ⊎ (isListed (entryOf es i) ≡ false) → entryOf (settle es ps) i ≡ withOffset (entryOf (settle es ps) i .offset) (entryOf es i)
+      at (inl l) = settle-entry i k l
+      at (inr l) = let z = settle-unlisted i k l in z ∙ ap (λ (e : Entry). withOffset (e .offset) (entryOf es i)) (sym z)
+
   -- A listed id's entry is in range at its settled offset.
   settled-range : (i : ℕ) → Lists es i → InRange (chosen es (λ j. entryOf (settle es ps) j .offset) i)
   settled-range i l =
@@ -188,12 +196,8 @@ module _ (es : List Entry) (r : Ranged es) (size : length es ≡ IDS) (ps : List
           right .0 .apart (s .place) (t .place) (s .inside) (t .inside) (λ e. ne (sym (s .id) ∙ e ∙ t .id)) n (in-class i li n c) (in-class j lj n d)
 
   -- Settling lists the same ids.
-  settle-listed : (i : ℕ) → i < IDS → isListed (entryOf (settle es ps) i) ≡ isListed (entryOf es i)
-  settle-listed i k = at (decided (isListed (entryOf es i)))
-    where
-      at : (isListed (entryOf es i) ≡ true) ⊎ (isListed (entryOf es i) ≡ false) → isListed (entryOf (settle es ps) i) ≡ isListed (entryOf es i)
-      at (inl l) = ap (λ (e : Entry). isListed e) (settle-entry i k l)
-      at (inr l) = ap (λ (e : Entry). isListed e) (settle-unlisted i k l)
+  pub settle-listed : (i : ℕ) → i < IDS → isListed (entryOf (settle es ps) i) ≡ isListed (entryOf es i)
+  settle-listed i k = ap (λ (e : Entry). isListed e) (settle-kept i k)
 
   -- The settled entries are in range,
   pub settle-ranged : Ranged (settle es ps)

@@ -61,7 +61,8 @@ use Rattle.slots.specs.Limits.{IDS, WHOLE, AREA, LAST-SLOT}
 use Rattle.slots.specs.Slots.{entitlement, supply, shortfall}
 use Rattle.timetable.proofs.Listing.{empty-sound, in-force-sound, present-in-force, present-sound, since-weights}
 use Rattle.timetable.proofs.Owner.{serves-one}
-use Rattle.timetable.proofs.Run.{kept-run, present-run, slices-run}
+use Rattle.timetable.proofs.Run.{base-later, kept-run, present-run, slices-run}
+use Rattle.timetable.proofs.Since.{shortfall-base, shortfall-request}
 use Rattle.timetable.proofs.Sound.{ranged-from, sound-is, sound-from}
 use Rattle.timetable.specs.declared.Entry.{Entry}
 use Rattle.timetable.specs.declared.Timetable.{Timetable}
@@ -208,6 +209,11 @@ one-form-kept = record { one = one-form; back = round-trip; range = read-in-rang
 
 pub kept-shortfall : KeptShortfall
 kept-shortfall sent = record {
+  at-request = λ i k l. let h = historyOf sent in sym (present-run h (history-valid sent) i k l (present h .request .0) (omega arith) ∙ shortfall-request (present h) i);
+  at-base = λ i k l.
+      let h = historyOf sent in
+      let v = history-valid sent in
+      sym (present-run h v i k l (present h .base .0) (base-later h v) ∙ shortfall-base (present h) (present-sound h v .0) i k);
   most = λ i a n k l b since.
       let h = historyOf sent in
       subst (λ (x : ℕ). entitlement (runOf h) i a n ≤ WHOLE * supply (runOf h) i a n + x)
@@ -218,7 +224,7 @@ kept-shortfall sent = record {
       let v = history-valid sent in
       let w = attains (runOf h) i x in
       let f : inForce h (w .from + w .size) ≡ present h =
-      present-in-force h (w .from + w .size) (omega (arith, w .ends, present-sound h v .0 .base)) in (
+      present-in-force h (w .from + w .size) (omega (arith, w .ends)) in (
         w .from,
         w .size,
         w .ends,
@@ -242,10 +248,10 @@ queries = record {
             (ap (λ (t : Timetable). record { number = ACCEPTED; place = 0; owner = ownerNumber (ownerAt t (coreSlot x)) })
             (sym (present-in-force h x b)));
         standing = λ i x k l b li.
-            rw (sound-is _ (present-sound h v .0), lt-leb IDS i k, le-ltb LAST-SLOT x l, le-ltb x (present h .base .0) b, li)
+            rw (sound-is _ (present-sound h v .0), lt-leb IDS i k, le-ltb LAST-SLOT x l, le-ltb x (present h .request .0) b, li)
             (ap₂ (λ (a n : ℕ). record { number = ACCEPTED; place = 0; shortfall = a; slices = sliceCount n })
             (sym (present-run h v i k li x b))
-            (sym (slices-run h v i k li (x - present h .base .0))));
+            (sym (slices-run h v i k li (x - present h .request .0))));
       };
   owner = owner-given;
   owner-only = owner-only;

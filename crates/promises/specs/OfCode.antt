@@ -108,9 +108,9 @@ pub record QueriesOfCode : Type 0 where
   pub standing : (t : Timetable) (i : ℕ) (x : CoreSlot) (r : StandingAnswer) → (r ≡ standingQuery t i x) ↔ StandingGiven t i x r
   pub owner-run : (h : History) → Serves h → (x : ℕ) → x ≤ LAST-SLOT → present h .request .0 ≤ x
       → (r : OwnerAnswer) → r ≡ ownerQuery (present h) (coreSlot x) → r ≡ ownerAnswer ACCEPTED (ownerNumber (runOf h x .owner))
-  pub standing-run : (h : History) → Serves h → (i x : ℕ) → i < IDS → x ≤ LAST-SLOT → present h .base .0 ≤ x → lists (present h) i ≡ true
+  pub standing-run : (h : History) → Serves h → (i x : ℕ) → i < IDS → x ≤ LAST-SLOT → present h .request .0 ≤ x → lists (present h) i ≡ true
       → (r : StandingAnswer) → r ≡ standingQuery (present h) i (coreSlot x)
-      → r ≡ standingAnswer ACCEPTED (shortfall (runOf h) i x) (sliceCount (supply (runOf h) i (present h .base .0) (x - present h .base .0)))
+      → r ≡ standingAnswer ACCEPTED (shortfall (runOf h) i x) (sliceCount (supply (runOf h) i (present h .request .0) (x - present h .request .0)))
 
 -- What the lab network reads and writes: a record is read as the rules say and only so, whole, from any place on and a field at a time, and what a
 -- `change` wrote is read as the schedule of its timetable; a request is written as the rules say and only so, and the controller reads what was written as

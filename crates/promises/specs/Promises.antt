@@ -47,7 +47,7 @@ use Rattle.timetable.specs.declared.Timetable.{Timetable}
 use Rattle.timetable.specs.History.{History, present, inForce, runOf}
 use Rattle.timetable.specs.Owner.{ownerNumber}
 use Rattle.timetable.specs.Sound.{entriesInRange, isSound}
-use Rattle.timetable.specs.Timetable.{emptyTimetable, entryOf, lists, serves, shortfallAt}
+use Rattle.timetable.specs.Timetable.{emptyTimetable, entryOf, lists, serves, shortfallAt, startOf}
 use Rattle.transition.specs.Reach.{isSearched, HasPlacement, PassedOver, SlotBreaks, CannotReach}
 
 -- 1. Sound stays sound; a refusal hands back the timetable as given and touches no byte of the area; an accepted record has at most 231 bytes and
@@ -142,13 +142,15 @@ pub record OneForm : Type 0 where
   pub range : (s : List ℕ) → readRequest s .reading ≡ Whole → RequestRange (readRequest s .request)
   pub damaged : (s : List ℕ) (r : Refusal) → readRequest s .reading ≡ unread r → RefusalRange s r
 
--- 9. The kept shortfall means what the dictionary says: from the base on, at every slot, it is the largest excess of entitlement over supply among the windows
--- of the listing that end there, the empty one included, counted across changes.
--- (Shuts out: a deficit counted from the last change; surplus banked below zero.)
+-- 9. The shortfall means what the dictionary says: from the request slot on, at every slot, it is the largest excess of entitlement over supply among the
+-- windows of the listing that end there, the empty one included, counted across changes; and the kept figures are the run's own, each at its slot.
+-- (Shuts out: a deficit counted from the last change; surplus banked below zero; the shortfall at the base kept for the request slot.)
 pub record ShortfallMeans (h : History) : Type 0 where
-  pub most : (i a n : ℕ) → i < IDS → lists (present h) i ≡ true → present h .base .0 ≤ a + n → Since (runOf h) i a n
+  pub at-request : (i : ℕ) → i < IDS → lists (present h) i ≡ true → startOf (present h) i ≡ shortfall (runOf h) i (present h .request .0)
+  pub at-base : (i : ℕ) → i < IDS → lists (present h) i ≡ true → entryOf (present h .entries) i .shortfall ≡ shortfall (runOf h) i (present h .base .0)
+  pub most : (i a n : ℕ) → i < IDS → lists (present h) i ≡ true → present h .request .0 ≤ a + n → Since (runOf h) i a n
       → entitlement (runOf h) i a n ≤ WHOLE * supply (runOf h) i a n + shortfallAt (present h) i (coreSlot (a + n))
-  pub attained : (i x : ℕ) → i < IDS → lists (present h) i ≡ true → present h .base .0 ≤ x
+  pub attained : (i x : ℕ) → i < IDS → lists (present h) i ≡ true → present h .request .0 ≤ x
       → (a : ℕ) × (n : ℕ) × (a + n ≡ x) × Since (runOf h) i a n × Listed (runOf h) i a n
       × (entitlement (runOf h) i a n ≡ WHOLE * supply (runOf h) i a n + shortfallAt (present h) i (coreSlot x))
 
@@ -156,19 +158,19 @@ pub record ShortfallMeans (h : History) : Type 0 where
 abbrev pub KeptShortfall : Type 0
 KeptShortfall = (sent : List Sent) → ShortfallMeans (historyOf sent)
 
--- 10. The owner query tells who the run's slot belongs to; the standing query tells the run's shortfall and the slices had since the base. Each refuses by
--- its numbers, in their order, with zeros beside them, and not otherwise.
--- (Shuts out: a query that ignores the transition; slices counted from the request slot.)
+-- 10. From the request slot on, in the transition and after it, the owner query tells who the run's slot belongs to, and the standing query the run's shortfall
+-- and the slices had since the request slot. Each refuses by its numbers, in their order, with zeros beside them, and not otherwise.
+-- (Shuts out: a query that ignores the transition; the shortfall at the base told in the transition; slices counted from the base.)
 pub record QueriesTell (h : History) : Type 0 where
   pub owner : (x : ℕ) → x ≤ LAST-SLOT → present h .request .0 ≤ x
       → ownerQuery (present h) (coreSlot x) ≡ record { number = ACCEPTED; place = 0; owner = ownerNumber (runOf h x .owner) }
-  pub standing : (i x : ℕ) → i < IDS → x ≤ LAST-SLOT → present h .base .0 ≤ x → lists (present h) i ≡ true
+  pub standing : (i x : ℕ) → i < IDS → x ≤ LAST-SLOT → present h .request .0 ≤ x → lists (present h) i ≡ true
       → standingQuery (present h) i (coreSlot x)
       ≡ record {
         number = ACCEPTED;
         place = 0;
         shortfall = shortfall (runOf h) i x;
-        slices = sliceCount (supply (runOf h) i (present h .base .0) (x - present h .base .0));
+        slices = sliceCount (supply (runOf h) i (present h .request .0) (x - present h .request .0));
       }
 
 -- So after any requests from an empty controller; and of any timetable, sound or not, each answer and refusal as it is given and only so.

@@ -10,7 +10,7 @@ use native.Mathlib.Nat.{add-mul, mul-assoc, div-zero, div-le-self, div-lt-iff-lt
 use native.Mathlib.Omega.{arith}
 use Prim.Native.Nat.{ℕ, _+_, _-_, _*_, _/_, _%_, _^_, _≤_, _<_}
 use Rattle.slots.specs.Limits.{WHOLE, LARGEST-BOUND}
-use Rattle.slots.specs.Shortfall.{keeps, weightOf, roomOf, lastOffsetOf}
+use Rattle.slots.specs.Shortfall.{keeps, overSlot, weightOf, roomOf, lastOffsetOf}
 use Rattle.timetable.proofs.Cycle.{shortfall-before, shortfall-after, weight-pos}
 use Rattle.timetable.proofs.Ranges.{InRange, Period, in-range-from, period-le, period-pos, period-whole, period-zeros}
 use Rattle.timetable.specs.declared.Entry.{Entry}
@@ -41,6 +41,15 @@ weight-shift p r = ap (λ (x : ℕ). WHOLE / x) (period-zeros p r .1)
 pub weight-le : (p : ℕ) → weightOf p ≤ WHOLE
 unfolding weightOf
 weight-le p = div-le-self WHOLE p
+
+-- The shortfall over a slot.
+pub over-own : (own : Bool) (w s r : ℕ) → own ≡ true → r ≡ s + w - WHOLE + 0 → overSlot own w s ≡ r
+unfolding overSlot
+over-own own w s r h e = rw h (omega (arith, e))
+
+pub over-other : (own : Bool) (w s : ℕ) → own ≡ false → s + w ≡ overSlot own w s
+unfolding overSlot
+over-other own w s h = rw h
 
 -- A number times a period is small.
 pub times-period : (x m p : ℕ) → x ≤ m → Period p → x * p ≤ m * WHOLE

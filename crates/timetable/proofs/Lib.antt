@@ -4,6 +4,8 @@ pub mod Cycle
 pub mod Meet
 pub mod Sound
 pub mod Owner
+pub mod Onward
+pub mod Since
 pub mod Run
 pub mod Listing
 pub mod ScanLaws
@@ -12,5 +14,6 @@ pub mod SoundLaws
 pub mod Marks
 pub mod TakenLaws
 pub mod OwnerLaws
-pub mod Onward
+pub mod Filling
+pub mod WalkLaws
 pub mod Shares

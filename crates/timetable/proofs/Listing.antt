@@ -20,12 +20,12 @@ use Rattle.timetable.proofs.Run.{Valid, empty-lists, in-force}
 use Rattle.timetable.proofs.Sound.{Sound, sound-from}
 use Rattle.timetable.specs.declared.Timetable.{Timetable}
 use Rattle.timetable.specs.History.{History, present, inForce, newlyListed, runOf}
-use Rattle.timetable.specs.Sound.{requestInRange, lengthInRange, baseAsStated, ownersListed, entryBlank, entriesInRange, noneShared, unusedOwnersZero, isSound}
-use Rattle.timetable.specs.Timetable.{noEntry, emptyTimetable, entryOf, lists, weight}
+use Rattle.timetable.specs.Sound.{requestInRange, lengthInRange, baseAsStated, ownersListed, entryBlank, entriesInRange, noneShared, unusedOwnersZero, startInRange, startsInRange, walkArrives, isSound}
+use Rattle.timetable.specs.Timetable.{noEntry, emptyTimetable, entryOf, lists, transitionShortfall, weight}
 
 -- The empty timetable is sound.
 pub empty-sound : isSound emptyTimetable ≡ true
-unfolding isSound requestInRange lengthInRange baseAsStated ownersListed entryBlank entriesInRange noneShared unusedOwnersZero every
+unfolding isSound requestInRange lengthInRange baseAsStated ownersListed entryBlank entriesInRange noneShared unusedOwnersZero startInRange startsInRange walkArrives transitionShortfall every
 empty-sound = refl
 
 -- Every timetable in force is sound, with an entry for each id.

@@ -1,40 +1,38 @@
--- The run of accepted timetables: each timetable's kept shortfalls are those of the run, counted across every change before it,
--- and every listed id's bound is kept in every slot. By induction on the history. Assumes nothing.
+-- The run of accepted timetables: from its request slot on each timetable's shortfalls and slices are those of the run, counted across every change before
+-- it, and every listed id's bound is kept in every slot. By induction on the history. Assumes nothing.
 use borrow.Author.Tests.{le-leb, lt-leb, eq-eqb, ne-eqb, lt-ltb}
 use lib.Dec.{eqb}
 use lib.ListN.{getD, length, replicate, length-replicate, List·getD-eq-default, getD-replicate}
 use mathlib.Core.Bool.{Bool, true, false}
 use mathlib.Core.List.{[], _∷_}
 use mathlib.Core.Path.{_≡_, refl, sym, ap, ap₂, _∙_, subst, fun-ext}
-use native.Mathlib.Decide.{ℕ-discrete, decLt}
+use native.Mathlib.Decide.{ℕ-discrete, decLe, decLt}
 use native.Mathlib.Nat.{add-zero, add-suc}
 use native.Mathlib.Omega.{arith}
 use Prim.Native.Nat.{ℕ, zero, suc, _+_, _-_, _*_, _≤_, _<_}
 use Rattle.slots.proofs.Below.{true-false}
 use Rattle.slots.proofs.Windows.{over-agree, shortfall-suc, shortfall-newly}
+use Rattle.slots.specs.Below.{count}
 use Rattle.slots.specs.Clocks.{coreSlot}
 use Rattle.slots.specs.Limits.{IDS, WHOLE}
 use Rattle.slots.specs.Shortfall.{overSlot, weightOf}
 use Rattle.slots.specs.Slots.{Slot, isOwner, one, own, supply, shortfall, shortfallOver}
-use Rattle.timetable.proofs.Cycle.{kept-for-ever}
-use Rattle.timetable.proofs.Owner.{serves-before, serves-from, owner-serves}
-use Rattle.timetable.proofs.Ranges.{InRange, period-whole}
+use Rattle.timetable.proofs.Onward.{kept-after}
+use Rattle.timetable.proofs.Owner.{owner-serves}
+use Rattle.timetable.proofs.Since.{one-cond, shortfall-from}
 use Rattle.timetable.proofs.Sound.{Sound}
 use Rattle.timetable.specs.declared.Entry.{Entry}
 use Rattle.timetable.specs.declared.Timetable.{Timetable}
 use Rattle.timetable.specs.History.{History, present, inForce, newlyListed, runOf}
-use Rattle.timetable.specs.Timetable.{noEntry, emptyTimetable, entryOf, isListed, lists, weight, cyclic, serves, ownerAt, shortfallAfter, slicesAfter, shortfallAt, startShortfall, transitionShortfall}
+use Rattle.timetable.specs.Timetable.{noEntry, emptyTimetable, entryOf, startOf, isListed, lists, weight, serves, ownerAt, shortfallSince, shortfallAt, startShortfall}
 
--- A timetable that continues another: it is sound, starts at the other's base or later, and walks its transition from the other's shortfalls,
--- every bound kept on the way, to the shortfalls that it keeps for its base.
+-- A timetable that continues another: it is sound, starts at the other's base or later from the other's shortfalls, and keeps every bound over its transition.
 pub record Continues (before t : Timetable) : Type 0 where
   pub sound : Sound t
   pub shape : length (t .entries) ≡ IDS
   pub later : before .base .0 ≤ t .request .0
-  pub kept : (i : ℕ) → i < IDS → lists t i ≡ true → (n : ℕ) → n ≤ t .length
-      → transitionShortfall (t .owners) i (weight (entryOf (t .entries) i)) (startShortfall before (t .request) i) n < WHOLE * entryOf (t .entries) i .bound
-  pub arrives : (i : ℕ) → i < IDS → lists t i ≡ true
-      → transitionShortfall (t .owners) i (weight (entryOf (t .entries) i)) (startShortfall before (t .request) i) (t .length) ≡ entryOf (t .entries) i .shortfall
+  pub starts : (i : ℕ) → i < IDS → lists t i ≡ true → startOf t i ≡ startShortfall before (t .request) i
+  pub kept : (i : ℕ) → i < IDS → lists t i ≡ true → (n : ℕ) → n ≤ t .length → shortfallSince t i n < WHOLE * entryOf (t .entries) i .bound
 
 -- A history in which each timetable continues the one before, from the empty one on.
 abbrev pub Valid : History → Type 0
@@ -137,75 +135,64 @@ module _ (t : Timetable) (h : History) where
 
   module _ (c : Continues (present h) t) (i : ℕ) (k : i < IDS) (l : lists t i ≡ true)
       (ih : lists (present h) i ≡ true → (x : ℕ) → present h .base .0 ≤ x → shortfall (runOf h) i x ≡ shortfallAt (present h) i (coreSlot x)) where
-    -- The shortfall with which id i enters the change is the run's.
-    enters-run : shortfall (runOf (t ∷ h)) i (t .request .0) ≡ startShortfall (present h) (t .request) i
-    unfolding startShortfall shortfallAt
-    enters-run = at (lists (present h) i) refl
+    -- The start of id i is the run's shortfall at the request slot.
+    enters-run : shortfall (runOf (t ∷ h)) i (t .request .0) ≡ startOf t i
+    unfolding startShortfall
+    enters-run = at (lists (present h) i) refl ∙ sym (c .starts i k l)
       where
         at : (b : Bool) → lists (present h) i ≡ b → shortfall (runOf (t ∷ h)) i (t .request .0) ≡ startShortfall (present h) (t .request) i
         at true e = rw (startShortfall, e) (enters i l e (t .request .0) refl ∙ ih e (t .request .0) (c .later))
         at false e = rw (startShortfall, e) (starts i l e)
 
-    -- Along the transition.
-    transition-run : (n : ℕ) → n ≤ t .length
-        → shortfall (runOf (t ∷ h)) i (t .request .0 + n) ≡ transitionShortfall (t .owners) i (weight (entryOf (t .entries) i)) (startShortfall (present h) (t .request) i) n
-    unfolding transitionShortfall
-    transition-run zero m = rw add-zero enters-run
-    transition-run (suc n) m =
+    -- From there on it is the timetable's.
+    since-run : (n : ℕ) → shortfall (runOf (t ∷ h)) i (t .request .0 + n) ≡ shortfallSince t i n
+    unfolding shortfallSince
+    since-run zero = rw (add-zero (t .request .0)) enters-run
+    since-run (suc n) =
         let r : ℕ = t .request .0 in
-        let b : r + n < t .base .0 = omega (arith, c .sound .base) in
-        let s : serves t (coreSlot (r + n)) i ≡ eqb i (getD (t .owners) n 0) =
-        serves-before t (r + n) i b ∙ ap (λ (x : ℕ). eqb i (getD (t .owners) x 0)) (omega arith) in
         rw (add-suc r n)
         (suc-is (c .sound) i (r + n) k (omega arith)
-        ∙ ap₂ (λ (a : Bool) (x : ℕ). overSlot a (weight (entryOf (t .entries) i)) x) s (transition-run n (omega arith)))
+        ∙ ap (overSlot (serves t (coreSlot (r + n)) i) (weight (entryOf (t .entries) i))) (since-run n))
 
-    -- From the base on.
-    cycle-run : (n : ℕ) → shortfall (runOf (t ∷ h)) i (t .base .0 + n) ≡ shortfallAfter (entryOf (t .entries) i) n
-    unfolding shortfallAfter
-    cycle-run zero =
-        ap (shortfall (runOf (t ∷ h)) i) (add-zero (t .base .0) ∙ c .sound .base) ∙ transition-run (t .length) (omega arith) ∙ c .arrives i k l
-    cycle-run (suc n) =
-        let b : ℕ = t .base .0 in
-        let s : serves t (coreSlot (b + n)) i ≡ cyclic (entryOf (t .entries) i) n =
-        serves-from t (b + n) i (omega arith) ∙ ap (cyclic (entryOf (t .entries) i)) (omega arith) in
-        rw (add-suc b n)
-        (suc-is (c .sound) i (b + n) k (omega (arith, c .sound .base))
-        ∙ ap₂ (λ (a : Bool) (x : ℕ). overSlot a (weight (entryOf (t .entries) i)) x) s (cycle-run n))
-
-    -- The bound is kept over every slot from the request slot on.
-    kept-from : (x : ℕ) → t .request .0 ≤ x → shortfall (runOf (t ∷ h)) i (suc x) < WHOLE * entryOf (t .entries) i .bound
-    kept-from x m = at (decLt x (t .base .0))
+    -- The bound is kept n slots after the request slot,
+    kept-since : (n : ℕ) → shortfallSince t i n < WHOLE * entryOf (t .entries) i .bound
+    kept-since n = at (decLe n (t .length))
       where
-        e : Entry
-        e = entryOf (t .entries) i
+        at : Dec (n ≤ t .length) → shortfallSince t i n < WHOLE * entryOf (t .entries) i .bound
+        at (yes m) = c .kept i k l n m
+        at (no m) =
+            let z : n ≡ t .length + (n - t .length) = omega arith in
+            let e : Entry = entryOf (t .entries) i in
+            omega (
+              arith,
+              ap (shortfallSince t i) z,
+              shortfall-from t (c .sound) i k (n - t .length),
+              kept-after e (c .sound .ranged .listed i k l) (n - t .length),
+            )
 
-        r : InRange e
-        r = c .sound .ranged .listed i k l
-
-        at : Dec (x < t .base .0) → shortfall (runOf (t ∷ h)) i (suc x) < WHOLE * e .bound
-        at (yes b) =
-            let n : ℕ = suc x - t .request .0 in
-            let z : t .request .0 + n ≡ suc x = omega arith in
-            let q : n ≤ t .length = omega (arith, c .sound .base) in
-            subst (λ (y : ℕ). shortfall (runOf (t ∷ h)) i y < WHOLE * e .bound) z
-            (subst (λ (y : ℕ). y < WHOLE * e .bound) (sym (transition-run n q)) (c .kept i k l n q))
-        at (no b) =
-            let n : ℕ = suc x - t .base .0 in
-            let z : t .base .0 + n ≡ suc x = omega arith in
-            subst (λ (y : ℕ). shortfall (runOf (t ∷ h)) i y < WHOLE * e .bound) z
-            (subst (λ (y : ℕ). y < WHOLE * e .bound) (sym (cycle-run n))
-            (kept-for-ever e (period-whole (e .period) (r .period)) (r .inside) (e .bound) (r .bound-low) .1 (r .kept) n))
+    -- and so over every slot.
+    kept-from : (x : ℕ) → t .request .0 ≤ x → shortfall (runOf (t ∷ h)) i (suc x) < WHOLE * entryOf (t .entries) i .bound
+    kept-from x m =
+        let n : ℕ = suc x - t .request .0 in
+        let z : t .request .0 + n ≡ suc x = omega arith in
+        omega (arith, ap (shortfall (runOf (t ∷ h)) i) z, since-run n, kept-since n)
 
 -- ---- the whole history
 
--- The kept shortfall of a listed id is the run's, at every slot from the base on.
-pub present-run : (h : History) → Valid h → (i : ℕ) → i < IDS → lists (present h) i ≡ true → (x : ℕ) → present h .base .0 ≤ x
+-- The base does not lie before the request slot.
+pub base-later : (h : History) → Valid h → present h .request .0 ≤ present h .base .0
+unfolding present
+base-later [] v = omega arith
+base-later (t ∷ h) v = omega (arith, v .0 .sound .base)
+
+-- The shortfall of a listed id is the run's, at every slot from the request slot on.
+pub present-run : (h : History) → Valid h → (i : ℕ) → i < IDS → lists (present h) i ≡ true → (x : ℕ) → present h .request .0 ≤ x
     → shortfall (runOf h) i x ≡ shortfallAt (present h) i (coreSlot x)
 unfolding present shortfallAt
 present-run [] v i k l x b = absurd (true-false l (empty-lists i))
 present-run (t ∷ h) v i k l x b =
-    ap (shortfall (runOf (t ∷ h)) i) (omega arith) ∙ cycle-run t h (v .0) i k l (λ m. present-run h (v .1) i k m) (x - t .base .0)
+    ap (shortfall (runOf (t ∷ h)) i) (omega arith)
+    ∙ since-run t h (v .0) i k l (λ m y d. present-run h (v .1) i k m y (omega (arith, base-later h (v .1)))) (x - t .request .0)
 
 -- An id with a weight is listed.
 pub weight-lists : (t : Timetable) → length (t .entries) ≡ IDS → (i : ℕ) → 0 < weight (entryOf (t .entries) i) → (i < IDS) × (lists t i ≡ true)
@@ -237,20 +224,18 @@ kept-run (t ∷ h) v i x w = at (decLt x (t .request .0)) (λ y. kept-run h (v .
         let c = v .0 in
         let w′ : 0 < weight (entryOf (t .entries) i) = subst (λ (y : ℕ). 0 < y) (weight-is t h i x m) w in
         let l = weight-lists t (c .shape) i w′ in
-        let q = kept-from t h c i (l .0) (l .1) (λ z. present-run h (v .1) i (l .0) z) x m in
+        let q = kept-from t h c i (l .0) (l .1) (λ z y d. present-run h (v .1) i (l .0) z y (omega (arith, base-later h (v .1)))) x m in
         let s = shortfall-suc (runOf (t ∷ h)) i x (newly-after t h (suc x) i (omega arith)) in
         subst (λ (y : ℕ). shortfallOver (runOf (t ∷ h)) i x < WHOLE * y) (sym (bound-is t h i x m))
         (subst (λ (y : ℕ). y < WHOLE * entryOf (t .entries) i .bound) s q)
 
--- The slices that a listed id has had since the base are the run's supply from there.
+-- The slices that an id has had since the request slot are the run's supply from there.
 pub slices-run : (h : History) → Valid h → (i : ℕ) → i < IDS → lists (present h) i ≡ true → (n : ℕ)
-    → supply (runOf h) i (present h .base .0) n ≡ slicesAfter (entryOf (present h .entries) i) n
-unfolding present supply slicesAfter
+    → supply (runOf h) i (present h .request .0) n ≡ count n (λ m. serves (present h) (coreSlot (present h .request .0 + m)) i)
+unfolding present supply count
 slices-run [] v i k l n = absurd (true-false l (empty-lists i))
 slices-run (t ∷ h) v i k l zero = refl
 slices-run (t ∷ h) v i k l (suc n) =
-    let b : ℕ = t .base .0 in
-    let o : own (runOf (t ∷ h)) i (b + n) ≡ cyclic (entryOf (t .entries) i) n =
-    own-is t h (v .0 .sound) i (b + n) k (omega (arith, v .0 .sound .base)) ∙ serves-from t (b + n) i (omega arith)
-    ∙ ap (cyclic (entryOf (t .entries) i)) (omega arith) in
-    ap₂ (λ (x : ℕ) (c : Bool). x + one c) (slices-run (t ∷ h) v i k l n) o
+    let r : ℕ = t .request .0 in
+    ap₂ _+_ (slices-run (t ∷ h) v i k l n)
+    (ap one (own-is t h (v .0 .sound) i (r + n) k (omega arith)) ∙ sym (one-cond (serves t (coreSlot (r + n)) i)))

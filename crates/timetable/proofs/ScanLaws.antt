@@ -1,13 +1,13 @@
 -- The questions about the numbers below a number, asked one number at a time. Assumes nothing.
 use borrow.Author.Tests.{not-true, not-false}
 use lib.ListN.{length, length-map}
-use mathlib.Core.Bool.{Bool, true, false, not}
+use mathlib.Core.Bool.{Bool, true, false, not, _&&_}
 use mathlib.Core.List.{List, map}
 use mathlib.Core.Option.{none, some}
-use mathlib.Core.Path.{_≡_, sym, ap, _∙_}
+use mathlib.Core.Path.{_≡_, refl, sym, ap, ap₂, _∙_}
 use native.Mathlib.Numerals.{add-one}
 use native.Mathlib.Omega.{arith}
-use Prim.Native.Nat.{ℕ, suc, _+_, _≤_, _<_}
+use Prim.Native.Nat.{ℕ, zero, suc, _+_, _≤_, _<_}
 use Rattle.slots.proofs.Below.{every-not, first-none, some-first}
 use Rattle.slots.specs.Below.{every, first}
 
@@ -21,6 +21,12 @@ refused r s e h = sym e ∙ not-true r h
 
 pub passed : (r s : Bool) → r ≡ s → not r ≡ false → s ≡ true
 passed r s e h = sym e ∙ not-false r h
+
+-- Two tests that agree below n.
+pub every-same : (f g : ℕ → Bool) (n : ℕ) → ((m : ℕ) → m < n → f m ≡ g m) → every n f ≡ every n g
+unfolding every
+every-same f g zero h = refl
+every-same f g (suc n) h = ap₂ _&&_ (every-same f g n (λ m l. h m (omega arith))) (h n (omega arith))
 
 module _ (test : ℕ → Bool) where
   -- A scan of all numbers below n that has come to m with the answer r: it stops where the test fails,

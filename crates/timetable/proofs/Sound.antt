@@ -1,5 +1,5 @@
 -- Soundness, from its test to what it says and back, clause by clause. Assumes nothing.
-use borrow.Author.Tests.{lt-ltb, le-ltb, le-leb, eq-eqb, ltb-false, leb-true, eqb-true}
+use borrow.Author.Tests.{lt-ltb, le-ltb, le-leb, eq-eqb, ltb-true, ltb-false, leb-true, eqb-true}
 use lib.Dec.{eqb, ltb}
 use lib.ListN.{getD}
 use mathlib.Core.Bool.{Bool, true, false, cond, not, _&&_, _||_}
@@ -9,14 +9,15 @@ use mathlib.Core.Path.{_≡_, refl, sym, ap, ap₂, _∙_, subst}
 use native.Mathlib.Decide.{decLt}
 use native.Mathlib.Nat.{mod-lt, mod-mod-of-dvd}
 use native.Mathlib.Omega.{arith}
-use Prim.Native.Nat.{ℕ, _+_, _%_, _≤_, _<_, _∣_}
+use Prim.Native.Nat.{ℕ, _+_, _*_, _%_, _≤_, _<_, _∣_}
 use Rattle.slots.proofs.Below.{and-both, every-at, every-all, true-false}
 use Rattle.slots.specs.Limits.{IDS, LONGEST, WHOLE, LAST-SLOT}
+use Rattle.slots.specs.Shortfall.{keeps}
 use Rattle.timetable.proofs.Ranges.{InRange, period-divides, in-range-from, in-range-is}
 use Rattle.timetable.specs.declared.Entry.{Entry}
 use Rattle.timetable.specs.declared.Timetable.{Timetable}
-use Rattle.timetable.specs.Sound.{requestInRange, lengthInRange, baseAsStated, ownersListed, entryInRange, entryBlank, entriesInRange, shareNone, noneShared, unusedOwnersZero, isSound}
-use Rattle.timetable.specs.Timetable.{noEntry, entryOf, isListed, cyclic}
+use Rattle.timetable.specs.Sound.{requestInRange, lengthInRange, baseAsStated, ownersListed, entryInRange, entryBlank, entriesInRange, shareNone, noneShared, unusedOwnersZero, startInRange, startsInRange, walkArrives, isSound}
+use Rattle.timetable.specs.Timetable.{noEntry, entryOf, startOf, isListed, lists, weight, cyclic, transitionShortfall}
 
 -- Every listed id's entry is in range, and every other id's entry is all zero.
 pub record Ranged (es : List Entry) : Type 0 where
@@ -36,6 +37,10 @@ pub record Sound (t : Timetable) : Type 0 where
   pub ranged : Ranged (t .entries)
   pub apart : Apart (t .entries)
   pub unused : (n : ℕ) → n < LONGEST → t .length ≤ n → getD (t .owners) n 0 ≡ 0
+  pub start-kept : (i : ℕ) → i < IDS → lists t i ≡ true → startOf t i < WHOLE * entryOf (t .entries) i .bound
+  pub start-zero : (i : ℕ) → i < IDS → lists t i ≡ false → startOf t i ≡ 0
+  pub arrives : (i : ℕ) → i < IDS
+      → transitionShortfall (t .owners) i (weight (entryOf (t .entries) i)) (startOf t i) (t .length) ≡ entryOf (t .entries) i .shortfall
 
 -- ---- entries
 
@@ -135,18 +140,36 @@ apart-is es a = every-all _ IDS (λ i k. every-all _ i (λ j l. at i j k l (isLi
     at i j k l true = share-is (entryOf es i) (entryOf es j) (a i j k (omega arith) (omega arith))
     at i j k l false = refl
 
+-- ---- the starts
+
+start-from : (e : Entry) (start : ℕ) → startInRange e start ≡ true
+    → (isListed e ≡ true → start < WHOLE * e .bound) × (isListed e ≡ false → start ≡ 0)
+unfolding startInRange keeps
+start-from e start h = ((λ l. ltb-true start (WHOLE * e .bound) (rw l at h)), (λ l. eqb-true start 0 (rw l at h)))
+
+start-is : (e : Entry) (start : ℕ) → (isListed e ≡ true → start < WHOLE * e .bound) → (isListed e ≡ false → start ≡ 0) → startInRange e start ≡ true
+unfolding startInRange keeps
+start-is e start f g = at (isListed e) refl
+  where
+    at : (b : Bool) → isListed e ≡ b → cond b (ltb start (WHOLE * e .bound)) (eqb start 0) ≡ true
+    at true l = lt-ltb start (WHOLE * e .bound) (f l)
+    at false l = eq-eqb start 0 (g l)
+
 -- ---- the whole timetable
 
 pub sound-from : (t : Timetable) → isSound t ≡ true → Sound t
-unfolding isSound requestInRange lengthInRange baseAsStated ownersListed unusedOwnersZero
+unfolding isSound requestInRange lengthInRange baseAsStated ownersListed unusedOwnersZero startsInRange walkArrives
 sound-from t h =
-    let a = and-both _ (unusedOwnersZero t) h in
+    let y = and-both _ (walkArrives t) h in
+    let z = and-both _ (startsInRange t) (y .0) in
+    let a = and-both _ (unusedOwnersZero t) (z .0) in
     let b = and-both _ (noneShared (t .entries)) (a .0) in
     let c = and-both _ (entriesInRange (t .entries)) (b .0) in
     let d = and-both _ (ownersListed t) (c .0) in
     let e = and-both _ (baseAsStated t) (d .0) in
     let f = and-both (requestInRange t) (lengthInRange t) (e .0) in
     let r = ranged-from (t .entries) (c .1) in
+    let s = every-at (λ i. startInRange (entryOf (t .entries) i) (startOf t i)) IDS (z .1) in
     record {
       request = leb-true _ _ (f .0);
       size = leb-true _ _ (f .1);
@@ -155,24 +178,36 @@ sound-from t h =
       ranged = r;
       apart = apart-from (t .entries) r (b .1);
       unused = λ n k l. at n l (every-at (λ n. ltb n (t .length) || eqb (getD (t .owners) n 0) 0) LONGEST (a .1) n k);
+      start-kept = λ i k. start-from (entryOf (t .entries) i) (startOf t i) (s i k) .0;
+      start-zero = λ i k. start-from (entryOf (t .entries) i) (startOf t i) (s i k) .1;
+      arrives = λ i k. eqb-true _ _ (every-at _ IDS (y .1) i k);
     }
   where
     at : (n : ℕ) → t .length ≤ n → ltb n (t .length) || eqb (getD (t .owners) n 0) 0 ≡ true → getD (t .owners) n 0 ≡ 0
     at n l k = eqb-true _ _ (rw (le-ltb n (t .length) l) at k)
 
 pub sound-is : (t : Timetable) → Sound t → isSound t ≡ true
-unfolding isSound requestInRange lengthInRange baseAsStated ownersListed unusedOwnersZero
+unfolding isSound requestInRange lengthInRange baseAsStated ownersListed unusedOwnersZero startsInRange walkArrives
 sound-is t s =
     ap₂ _&&_
+    (ap₂ _&&_
+    (ap₂ _&&_
     (ap₂ _&&_
     (ap₂ _&&_
     (ap₂ _&&_ (ap₂ _&&_ (ap₂ _&&_ (le-leb _ _ (s .request)) (le-leb _ _ (s .size))) (eq-eqb _ _ (s .base))) (every-all _ (t .length) (s .owners)))
     (ranged-is (t .entries) (s .ranged)))
     (apart-is (t .entries) (s .apart)))
-    (every-all _ LONGEST (λ n k. at n k (decLt n (t .length))))
+    (every-all _ LONGEST (λ n k. at n k (decLt n (t .length)))))
+    (every-all _ IDS (λ i k. start-is (entryOf (t .entries) i) (startOf t i) (s .start-kept i k) (s .start-zero i k))))
+    (every-all _ IDS (λ i k. eq-eqb _ _ (s .arrives i k)))
   where
     at : (n : ℕ) → n < LONGEST → Dec (n < t .length) → ltb n (t .length) || eqb (getD (t .owners) n 0) 0 ≡ true
     at n k (yes l) = rw (lt-ltb n (t .length) l)
     at n k (no l) =
         let h : t .length ≤ n = omega arith in
         rw (le-ltb n (t .length) h) (eq-eqb _ _ (s .unused n k h))
+
+-- A listed entry of a sound timetable is in range.
+pub listed-in-range : (t : Timetable) → isSound t ≡ true → (i : ℕ) → i < IDS → isListed (entryOf (t .entries) i) ≡ true
+    → entryInRange (entryOf (t .entries) i) ≡ true
+listed-in-range t s i k l = in-range-is (entryOf (t .entries) i) (sound-from t s .ranged .listed i k l)

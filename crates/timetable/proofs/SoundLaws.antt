@@ -11,13 +11,13 @@ use native.Mathlib.Omega.{arith}
 use Prim.Native.Nat.{ℕ, zero, suc, _+_, _*_, _≤_, _<_}
 use Rattle.slots.proofs.Below.{and-both, every-at, every-all, true-false}
 use Rattle.slots.specs.Below.{every}
-use Rattle.slots.specs.Limits.{IDS, LONGEST, LARGEST-BOUND, LAST-SLOT}
+use Rattle.slots.specs.Limits.{IDS, LONGEST, WHOLE, LARGEST-BOUND, LAST-SLOT}
 use Rattle.slots.specs.Shortfall.{keeps}
 use Rattle.timetable.proofs.EntryLaws.{unlisted, listed}
 use Rattle.timetable.specs.declared.Entry.{Entry}
 use Rattle.timetable.specs.declared.Timetable.{Timetable}
-use Rattle.timetable.specs.Sound.{requestInRange, lengthInRange, baseAsStated, ownersListed, isPeriod, isBound, entryInRange, entryBlank, entriesInRange, noneShared, unusedOwnersZero, isSound}
-use Rattle.timetable.specs.Timetable.{noEntry, entryOf, isListed, weight}
+use Rattle.timetable.specs.Sound.{requestInRange, lengthInRange, baseAsStated, ownersListed, isPeriod, isBound, entryInRange, entryBlank, entriesInRange, noneShared, unusedOwnersZero, startInRange, startsInRange, walkArrives, isSound}
+use Rattle.timetable.specs.Timetable.{noEntry, entryOf, startOf, isListed, weight}
 
 -- ---- one entry
 
@@ -110,6 +110,15 @@ module _ (e : Entry) where
   pub formed-blank : isListed e ≡ false → formed ≡ entryBlank e
   formed-blank h = rw h
 
+  -- A start, as the entry is listed.
+  pub bears-listed : (start : ℕ) → isListed e ≡ true → ltb start (WHOLE * e .bound) ≡ startInRange e start
+  unfolding startInRange keeps
+  bears-listed start h = rw h
+
+  pub bears-unlisted : (start : ℕ) → isListed e ≡ false → eqb start 0 ≡ startInRange e start
+  unfolding startInRange
+  bears-unlisted start h = rw h
+
 -- ---- the request slot, the length and the base
 
 module _ (t : Timetable) where
@@ -152,6 +161,10 @@ pub entry-range : (es : List Entry) (i : ℕ) → entriesInRange es ≡ true →
 unfolding entriesInRange
 entry-range es i h k l = sym (formed-listed (entryOf es i) l) ∙ every-at (entryTest es) IDS h i k
 
+-- What starts_in_range asks of id i.
+abbrev pub startTest : Timetable → ℕ → Bool
+startTest t i = startInRange (entryOf (t .entries) i) (startOf t i)
+
 -- What unused_owners_zero asks of place n.
 module _ (owners : List ℕ) (size : ℕ) where
   abbrev pub unusedTest : ℕ → Bool
@@ -174,6 +187,9 @@ first-fails a b h = rw (← h) refl
 pub second-fails : (a b : Bool) → false ≡ b → false ≡ a && b
 second-fails true b h = h
 second-fails false b h = refl
+
+pub second-tells : (a b : Bool) → a ≡ true → b ≡ a && b
+second-tells a b h = rw h
 
 pub both-pass : (a b : Bool) → true ≡ a → true ≡ b → true ≡ a && b
 both-pass a b h k = rw (← h, ← k) refl
@@ -203,8 +219,15 @@ module _ (t : Timetable) where
           at true false p q = rw (a, b, p, q) refl
           at true true p q = absurd (true-false (rw (p, q) refl) d)
 
-      pub sound-unused : entriesInRange (t .entries) && noneShared (t .entries) ≡ true → isSound t ≡ every LONGEST (unusedTest (t .owners) (t .length))
-      unfolding isSound unusedOwnersZero
-      sound-unused d =
-          let f = and-both (entriesInRange (t .entries)) (noneShared (t .entries)) d in
-          rw (a, b, f .0, f .1) refl
+      module _ (d : entriesInRange (t .entries) && noneShared (t .entries) ≡ true) where
+        pub sound-unused : every LONGEST (unusedTest (t .owners) (t .length)) ≡ false → isSound t ≡ false
+        unfolding isSound unusedOwnersZero
+        sound-unused u =
+            let f = and-both (entriesInRange (t .entries)) (noneShared (t .entries)) d in
+            rw (a, b, f .0, f .1, u) refl
+
+        pub sound-starts : every LONGEST (unusedTest (t .owners) (t .length)) ≡ true → isSound t ≡ startsInRange t && walkArrives t
+        unfolding isSound unusedOwnersZero
+        sound-starts u =
+            let f = and-both (entriesInRange (t .entries)) (noneShared (t .entries)) d in
+            rw (a, b, f .0, f .1, u) refl

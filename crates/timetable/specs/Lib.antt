@@ -4,3 +4,4 @@ pub mod History
 pub mod Owner
 pub mod Marks
 pub mod Taken
+pub mod Walk

@@ -1,4 +1,4 @@
--- docs/RULES.md 3.5 to 3.12: what sound means, clause by clause. It shares nothing with the placement search.
+-- docs/RULES.md 3.5 to 3.14: what sound means, clause by clause. It shares nothing with the placement search.
 use lib.Dec.{eqb, leb, ltb}
 use lib.ListN.{getD}
 use mathlib.Core.Bool.{Bool, cond, not, _&&_, _||_}
@@ -10,7 +10,7 @@ use Rattle.slots.specs.Limits.{IDS, LONGEST, WHOLE, LARGEST-BOUND, LARGEST-K, L
 use Rattle.slots.specs.Shortfall.{keeps}
 use Rattle.timetable.specs.declared.Entry.{Entry}
 use Rattle.timetable.specs.declared.Timetable.{Timetable}
-use Rattle.timetable.specs.Timetable.{entryOf, isListed, weight, cyclic}
+use Rattle.timetable.specs.Timetable.{entryOf, startOf, isListed, weight, cyclic, transitionShortfall}
 
 -- Request slot at most 2^48 - 1.
 unfoldable pub requestInRange : Timetable → Bool
@@ -68,8 +68,22 @@ noneShared es =
 unfoldable pub unusedOwnersZero : Timetable → Bool
 unusedOwnersZero t = every LONGEST (λ n. ltb n (t .length) || eqb (getD (t .owners) n 0) 0)
 
+-- The start of a listed entry below 256 R, that of an unlisted one zero.
+unfoldable pub startInRange : Entry → ℕ → Bool
+startInRange e start = cond (isListed e) (keeps (e .bound) start) (eqb start 0)
+
+-- Every start so.
+unfoldable pub startsInRange : Timetable → Bool
+startsInRange t = every IDS (λ i. startInRange (entryOf (t .entries) i) (startOf t i))
+
+-- Walking the transition from the starts gives the shortfalls at the base.
+unfoldable pub walkArrives : Timetable → Bool
+walkArrives t =
+    every IDS
+    (λ i. eqb (transitionShortfall (t .owners) i (weight (entryOf (t .entries) i)) (startOf t i) (t .length)) (entryOf (t .entries) i .shortfall))
+
 -- Sound means all of these.
 unfoldable pub isSound : Timetable → Bool
 isSound t =
     requestInRange t && lengthInRange t && baseAsStated t && ownersListed t && entriesInRange (t .entries) && noneShared (t .entries)
-    && unusedOwnersZero t
+    && unusedOwnersZero t && startsInRange t && walkArrives t

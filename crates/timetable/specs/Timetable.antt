@@ -1,11 +1,11 @@
--- docs/RULES.md 3.1 to 3.3: what a timetable holds, and whom a slot serves.
+-- docs/RULES.md 3.1 to 3.3 and 3.15: what a timetable holds, whom a slot serves, and each id's shortfall and slices from the request slot on.
 use lib.Dec.{eqb, ltb}
 use lib.ListN.{getD, replicate, set}
 use mathlib.Core.Bool.{Bool, cond, _&&_}
 use mathlib.Core.List.{List}
 use mathlib.Core.Option.{Option}
 use Prim.Native.Nat.{ℕ, zero, suc, _+_, _-_, _%_}
-use Rattle.slots.specs.Below.{first}
+use Rattle.slots.specs.Below.{first, count}
 use Rattle.slots.specs.Clocks.{coreSlot, sliceCount}
 use Rattle.slots.specs.declared.CoreSlot.{CoreSlot}
 use Rattle.slots.specs.declared.SliceCount.{SliceCount}
@@ -19,7 +19,7 @@ use Rattle.timetable.specs.declared.Timetable.{Timetable}
 abbrev pub noEntry : Entry
 noEntry = record { period = 0; offset = 0; bound = 0; shortfall = 0 }
 
--- The empty timetable has request slot 0, length 0 and nothing listed.
+-- The empty timetable has request slot 0, length 0, nothing listed and every shortfall 0.
 abbrev pub emptyTimetable : Timetable
 emptyTimetable = record {
   request = coreSlot 0;
@@ -27,11 +27,16 @@ emptyTimetable = record {
   owners = replicate LONGEST 0;
   base = coreSlot 0;
   entries = replicate IDS noEntry;
+  starts = replicate IDS 0;
 }
 
 -- The entry of id i.
 abbrev pub entryOf : List Entry → ℕ → Entry
 entryOf entries i = getD entries i noEntry
+
+-- The start of id i: its shortfall at the request slot.
+abbrev pub startOf : Timetable → ℕ → ℕ
+startOf t i = getD (t .starts) i 0
 
 -- Helper of startEntries: f put in the place of each of the first n entries, by its id and the entry.
 unfoldable pub each : (ℕ → Entry → Entry) → ℕ → List Entry → List Entry
@@ -91,21 +96,23 @@ unfoldable pub slicesAfter : Entry → ℕ → ℕ
 slicesAfter e zero = 0
 slicesAfter e (suc n) = slicesAfter e n + one (cyclic e n)
 
--- The shortfall of id i at the start of slot x, from the base on.
+-- The shortfall of id i n slots after the request slot: its start, taken over each of the n slots.
+unfoldable pub shortfallSince : Timetable → ℕ → ℕ → ℕ
+shortfallSince t i zero = startOf t i
+shortfallSince t i (suc n) =
+    overSlot (serves t (coreSlot (t .request .0 + n)) i) (weight (entryOf (t .entries) i)) (shortfallSince t i n)
+
+-- The shortfall of id i at the start of slot x, from the request slot on.
 unfoldable pub shortfallAt : Timetable → ℕ → CoreSlot → ℕ
-shortfallAt t i x = shortfallAfter (entryOf (t .entries) i) (x .0 - t .base .0)
+shortfallAt t i x = shortfallSince t i (x .0 - t .request .0)
 
--- The slices that id i has had from the base up to the start of slot x.
+-- The slices that id i has had from the request slot up to the start of slot x: how many of these slots serve it.
 unfoldable pub slicesAt : Timetable → ℕ → CoreSlot → SliceCount
-slicesAt t i x = sliceCount (slicesAfter (entryOf (t .entries) i) (x .0 - t .base .0))
+slicesAt t i x = sliceCount (count (x .0 - t .request .0) (λ n. serves t (coreSlot (t .request .0 + n)) i))
 
--- The shortfall with which an entry enters a change n slots after the base: a newly listed partition starts at 0.
-abbrev pub entersWith : Entry → ℕ → ℕ
-entersWith e n = cond (isListed e) (shortfallAfter e n) 0
-
--- The shortfall with which id i enters a change at slot x.
+-- The shortfall with which id i enters a change at slot x: a newly listed partition starts at 0.
 unfoldable pub startShortfall : Timetable → CoreSlot → ℕ → ℕ
-startShortfall t x i = entersWith (entryOf (t .entries) i) (x .0 - t .base .0)
+startShortfall t x i = cond (lists t i) (shortfallAt t i x) 0
 
 -- The shortfall of id i, at a weight, after n transition slots of these owners, from its shortfall at the request slot.
 unfoldable pub transitionShortfall : List ℕ → ℕ → ℕ → ℕ → ℕ → ℕ

@@ -4,6 +4,7 @@ ghost use mathlib.Core.Path.{_≡_};
 ghost use Prim.Native.Nat.{_+_, _-_, _%_, _<_};
 ghost use Rattle.slots.specs.Clocks.{sliceCount};
 ghost use Rattle.slots.specs.Limits.{WHOLE};
+ghost use Rattle.slots.specs.Shortfall.{overSlot};
 ghost use Rattle.timetable.specs.Sound.{entryInRange, isPeriod};
 ghost use Rattle.timetable.specs.Timetable.{isListed, weight, room, lastOffset, cyclic, shortfallAfter, slicesAfter};
 use crate::Entry;
@@ -101,6 +102,18 @@ fn phase(n: u64, period: u16) -> u64
     ensures { λ r. ⌜ r ≡ n % period ⌝ }
 {
     n & ((period as u64) - 1)
+}
+
+// The shortfall over one slot: it rises by the weight, and an own slot then pays.
+pub fn over_slot(own: bool, weight: u16, shortfall: u16) -> u16
+    requires { ⌜ shortfall + weight < 65536 ⌝ }
+    ensures { λ r. ⌜ r ≡ overSlot own weight shortfall ⌝ }
+{
+    let owed = shortfall + weight;
+    if own {
+        return after_own(owed, 0);
+    }
+    owed
 }
 
 // What is owed some slots after an own slot: it pays 256 of what was owed, surplus is not kept, and the slots since add their weight.

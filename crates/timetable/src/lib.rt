@@ -5,9 +5,9 @@ use slots::CoreSlot;
 
 mod figures; // figures.rt: the figures of one entry
 mod soundness; // soundness.rt: whether a timetable is sound
-mod serving; // serving.rt: whom it lists, and whom a slot serves
+mod serving; // serving.rt: whom it lists, whom a slot serves, and each id's shortfall and slices at a slot
 
-pub use figures::after_own;
+pub use figures::over_slot;
 pub use soundness::is_bound;
 
 // What a timetable holds for one id. A period of 0 says that the id is not listed.
@@ -32,13 +32,14 @@ impl Entry {
     }
 }
 
-// The request slot, the transition's length and owners, the base, and an entry for each id.
+// The request slot, the transition's length and owners, the base, and for each id an entry and its start, the shortfall at the request slot.
 pub struct Timetable {
     pub request: CoreSlot,
     pub length: u8,
     pub owners: [u8; Timetable::LONGEST],
     pub base: CoreSlot,
     pub entries: [Entry; Timetable::IDS],
+    pub starts: [u16; Timetable::IDS],
 }
 
 impl Timetable {
@@ -66,7 +67,7 @@ impl Timetable {
     // The owner query's answer for an idle slot.
     pub const IDLE: u8 = 255;
 
-    // The empty timetable: request slot 0, length 0 and nothing listed.
+    // The empty timetable: request slot 0, length 0, nothing listed and every shortfall 0.
     pub fn empty() -> Timetable
         ensures { λ r. ⌜ r ≡ emptyTimetable ⌝ }
     {
@@ -77,6 +78,7 @@ impl Timetable {
             owners: [0; Timetable::LONGEST],
             base: CoreSlot(0),
             entries: [none; Timetable::IDS],
+            starts: [0; Timetable::IDS],
         }
     }
 }

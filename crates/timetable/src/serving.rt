@@ -1,14 +1,18 @@
-// Whom a timetable lists, and whom a slot serves. Nothing here is refused: a slot before the request slot is the caller's to refuse.
+// Whom a timetable lists, whom a slot serves, and an id's shortfall and slices there. Nothing here is refused: a slot before the request slot is the caller's to refuse.
+ghost use lib.Dec.{eqb};
+ghost use lib.ListN.{getD};
 ghost use mathlib.Core.Bool.{true};
 ghost use mathlib.Core.Path.{_≡_};
-ghost use Prim.Native.Nat.{_<_, _≤_};
-ghost use Rattle.slots.specs.Below.{first};
-ghost use Rattle.slots.specs.Limits.{IDS};
+ghost use Prim.Native.Nat.{_+_, _*_, _<_, _≤_};
+ghost use Rattle.slots.specs.Below.{first, count};
+ghost use Rattle.slots.specs.Limits.{IDS, LONGEST};
 ghost use Rattle.timetable.specs.Owner.{ownerNumber};
 ghost use Rattle.timetable.specs.Sound.{entriesInRange, isSound};
-ghost use Rattle.timetable.specs.Timetable.{entryOf, lists, cyclic, ownerAt};
+ghost use Rattle.timetable.specs.Timetable.{entryOf, lists, cyclic, ownerAt, shortfallAt, slicesAt, transitionShortfall};
 use crate::Timetable;
+use crate::figures::over_slot;
 use slots::CoreSlot;
+use slots::SliceCount;
 
 impl Timetable {
     // Whether an id is listed.
@@ -49,4 +53,71 @@ impl Timetable {
         }
         Timetable::IDLE
     }
+    // The shortfall of a listed id at the start of a slot from the request slot on.
+    pub fn shortfall_at(self, id: u8, x: CoreSlot) -> u16
+        requires { ⌜ (isSound self ≡ true) × (id < IDS) × (lists self id ≡ true) × (self .request .0 ≤ x .0) ⌝ }
+        ensures { λ r. ⌜ r ≡ shortfallAt self id x ⌝ }
+    {
+        let i = id as usize;
+        let e = self.entries[i];
+        if x.0 < self.base.0 {
+            let start = self.starts[i];
+            let n = (x.0 - self.request.0) as usize;
+            return transition_shortfall(&self.owners, id, e.weight(), start, n);
+        }
+        e.shortfall_after(x.0 - self.base.0)
+    }
+
+    // The slices that a listed id has had from the request slot up to the start of a slot.
+    pub fn slices_at(self, id: u8, x: CoreSlot) -> SliceCount
+        requires { ⌜ (isSound self ≡ true) × (id < IDS) × (lists self id ≡ true) × (self .request .0 ≤ x .0) ⌝ }
+        ensures { λ r. ⌜ r ≡ slicesAt self id x ⌝ }
+    {
+        if x.0 < self.base.0 {
+            let n = (x.0 - self.request.0) as usize;
+            return SliceCount(transition_slices(&self.owners, id, n));
+        }
+        let i = id as usize;
+        let e = self.entries[i];
+        let before = transition_slices(&self.owners, id, self.length as usize);
+        let since = e.slices_after(x.0 - self.base.0);
+        SliceCount(before + since.0)
+    }
+}
+
+// The shortfall of an id, at a weight, after n transition slots of these owners, from its start.
+fn transition_shortfall(
+    owners: &[u8; Timetable::LONGEST],
+    id: u8,
+    weight: u16,
+    start: u16,
+    n: usize,
+) -> u16
+    requires { ⌜ (n ≤ LONGEST) × (start + weight * n < 65536) ⌝ }
+    ensures { λ r. ⌜ r ≡ transitionShortfall (now (owners .entry)) id weight start n ⌝ }
+{
+    let mut shortfall = start;
+    let mut k: usize = 0;
+    while k < n {
+        let owner = owners[k];
+        shortfall = over_slot(id == owner, weight, shortfall);
+        k += 1;
+    }
+    shortfall
+}
+
+// How many of the first n transition slots are an id's own.
+fn transition_slices(owners: &[u8; Timetable::LONGEST], id: u8, n: usize) -> u64
+    requires { ⌜ n ≤ LONGEST ⌝ }
+    ensures { λ r. ⌜ r ≡ count n (λ k. eqb id (getD (now (owners .entry)) k 0)) ⌝ }
+{
+    let mut slices: u64 = 0;
+    let mut k: usize = 0;
+    while k < n {
+        if id == owners[k] {
+            slices += 1;
+        }
+        k += 1;
+    }
+    slices
 }

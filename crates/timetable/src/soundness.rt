@@ -5,14 +5,16 @@ ghost use mathlib.Core.Bool.{true, cond, _&&_, _||_};
 ghost use mathlib.Core.Path.{_≡_};
 ghost use Prim.Native.Nat.{_+_, _*_, _≤_};
 ghost use Rattle.slots.specs.Below.{every};
-ghost use Rattle.slots.specs.Limits.{LONGEST};
+ghost use Rattle.slots.specs.Limits.{IDS, LONGEST};
 ghost use Rattle.slots.specs.Shortfall.{keeps};
 ghost use Rattle.timetable.specs.Marks.{OfCycle};
-ghost use Rattle.timetable.specs.Sound.{requestInRange, lengthInRange, baseAsStated, ownersListed, isPeriod, isBound, entryInRange, entryBlank, entriesInRange, noneShared, isSound};
+ghost use Rattle.timetable.specs.Sound.{requestInRange, lengthInRange, baseAsStated, ownersListed, isPeriod, isBound, entryInRange, entryBlank, entriesInRange, noneShared, startInRange, startsInRange, walkArrives, isSound};
 ghost use Rattle.timetable.specs.Taken.{Takes};
-ghost use Rattle.timetable.specs.Timetable.{isListed, weight};
+ghost use Rattle.timetable.specs.Timetable.{entryOf, isListed, weight};
+ghost use Rattle.timetable.specs.Walk.{Walkable, Owed};
 use crate::Entry;
 use crate::Timetable;
+use crate::figures::after_own;
 
 // The slots of one cycle.
 const WHOLE: usize = Timetable::WHOLE as usize;
@@ -31,7 +33,10 @@ impl Timetable {
         if !self.entries_fit() {
             return false;
         }
-        unused_owners_zero(&self.owners, self.length)
+        if !unused_owners_zero(&self.owners, self.length) {
+            return false;
+        }
+        self.starts_arrive()
     }
 
     // Request slot and length in range, and the base as stated.
@@ -80,6 +85,83 @@ impl Timetable {
                 return false;
             }
             if !take_slots(&mut taken, e) {
+                return false;
+            }
+            id += 1;
+        }
+        true
+    }
+
+    // Each start is in range, and the walk of the transition leads from the starts to the shortfalls at the base.
+    fn starts_arrive(self) -> bool
+        requires { ⌜ Walkable self ⌝ }
+        ensures { λ r. ⌜ r ≡ (startsInRange self && walkArrives self) ⌝ }
+    {
+        if !self.starts_in_range() {
+            return false;
+        }
+        self.walk_arrives()
+    }
+
+    // Each listed id's start is below 256 R, and every other one is zero.
+    fn starts_in_range(self) -> bool
+        requires { ⌜ entriesInRange (self .entries) ≡ true ⌝ }
+        ensures { λ r. ⌜ r ≡ startsInRange self ⌝ }
+    {
+        let mut id: usize = 0;
+        while id < Timetable::IDS {
+            let e = self.entries[id];
+            if !e.bears(self.starts[id]) {
+                return false;
+            }
+            id += 1;
+        }
+        true
+    }
+
+    // Walking the transition from the starts gives the shortfalls at the base, in one pass over the owners: each slot is taken off what its owner would owe at the base without the slots left.
+    fn walk_arrives(self) -> bool
+        requires { ⌜ Walkable self × (startsInRange self ≡ true) ⌝ }
+        ensures { λ r. ⌜ r ≡ walkArrives self ⌝ }
+    {
+        let mut owed = self.unserved();
+        let size = self.length as usize;
+        let mut n: usize = 0;
+        while n < size {
+            let owner = self.owners[n] as usize;
+            let e = self.entries[owner];
+            let rest = e.weight() * ((size - n - 1) as u16);
+            let due = owed[owner] - rest;
+            owed[owner] = after_own(due, rest);
+            n += 1;
+        }
+        self.arrives_at(owed)
+    }
+
+    // What each id would owe at the base if no transition slot were its own: its start, and its weight for each slot.
+    fn unserved(self) -> [u16; Timetable::IDS]
+        requires { ⌜ Walkable self × (startsInRange self ≡ true) ⌝ }
+        ensures { λ r. ⌜ Owed self 0 r ⌝ }
+    {
+        let size = self.length as u16;
+        let mut owed = [0; Timetable::IDS];
+        let mut id: usize = 0;
+        while id < Timetable::IDS {
+            let e = self.entries[id];
+            owed[id] = self.starts[id] + e.weight() * size;
+            id += 1;
+        }
+        owed
+    }
+
+    // Whether these are the shortfalls at the base.
+    fn arrives_at(self, owed: [u16; Timetable::IDS]) -> bool
+        ensures { λ r. ⌜ r ≡ every IDS (λ i. eqb (getD owed i 0) (entryOf (self .entries) i .shortfall)) ⌝ }
+    {
+        let mut id: usize = 0;
+        while id < Timetable::IDS {
+            let e = self.entries[id];
+            if owed[id] != e.shortfall {
                 return false;
             }
             id += 1;
@@ -142,6 +224,17 @@ impl Entry {
         let p = self.period as u32;
         let owed = (self.shortfall as u32) * p + (self.offset as u32) * whole;
         owed < whole * (self.bound as u32) * p
+    }
+
+    // A start below 256 R where it is listed, and zero where it is not.
+    fn bears(self, start: u16) -> bool
+        requires { ⌜ (isListed self ≡ true → entryInRange self ≡ true) ⌝ }
+        ensures { λ r. ⌜ r ≡ startInRange self start ⌝ }
+    {
+        if self.is_listed() {
+            return start < Timetable::WHOLE * (self.bound as u16);
+        }
+        start == 0
     }
 
     // Offset, bound and shortfall are all zero.

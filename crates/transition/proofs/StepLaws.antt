@@ -127,10 +127,8 @@ missed-is es u b h = ap not h
 -- ---- the entries over the slot
 
 -- An entry with the shortfall that the slot leaves it.
-pub over-as : (e : Entry) (own b : Bool) (w s : ℕ) → own ≡ b → w ≡ weight e → s ≡ overSlot b w (e .shortfall) → withShortfall s e ≡ overEntry own e
-over-as e own b w s h k p =
-    ap (λ (x : ℕ). withShortfall x e)
-    (p ∙ ap (λ (x : ℕ). overSlot b x (e .shortfall)) k ∙ ap (λ (x : Bool). overSlot x (weight e) (e .shortfall)) (sym h))
+pub over-as : (e : Entry) (own : Bool) (w s : ℕ) → w ≡ weight e → s ≡ overSlot own w (e .shortfall) → withShortfall s e ≡ overEntry own e
+over-as e own w s k p = ap (λ (x : ℕ). withShortfall x e) (p ∙ ap (λ (x : ℕ). overSlot own x (e .shortfall)) k)
 
 -- An entry in range owes less than 256 x 8.
 pub owes-less : (es : List Entry) → entriesInRange es ≡ true → (i : ℕ) → i < IDS → entryOf es i .shortfall < WHOLE * LARGEST-BOUND

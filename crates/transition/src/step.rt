@@ -12,7 +12,7 @@ use crate::Plan;
 use crate::Urgent;
 use timetable::Entry;
 use timetable::Timetable;
-use timetable::after_own;
+use timetable::over_slot;
 
 // The plan with transition slot n given to the most urgent, or unchanged where it is missed.
 pub fn longer(plan: Plan, n: u8) -> Next
@@ -103,22 +103,18 @@ fn over_all(entries: [Entry; Timetable::IDS], u: usize) -> [Entry; Timetable::ID
     let mut id: usize = 0;
     while id < Timetable::IDS {
         let e = entries[id];
-        over[id] = over_slot(e, id == u);
+        over[id] = over_entry(e, id == u);
         id += 1;
     }
     over
 }
 
 // An entry over one slot, its own or not.
-fn over_slot(e: Entry, own: bool) -> Entry
+fn over_entry(e: Entry, own: bool) -> Entry
     requires { ⌜ e .shortfall < WHOLE * LARGEST-BOUND ⌝ }
     ensures { λ r. ⌜ r ≡ overEntry own e ⌝ }
 {
-    let owed = e.shortfall + e.weight();
     let mut over = e;
-    over.shortfall = owed;
-    if own {
-        over.shortfall = after_own(owed, 0);
-    }
+    over.shortfall = over_slot(own, e.weight(), e.shortfall);
     over
 }

@@ -1,11 +1,8 @@
 -- `finish` takes the ending apart as the definition does. Assumes nothing.
 use borrow.Author.Needs.{needs}
-use mathlib.Core.Path.{sym, ap, _∙_}
-use Rattle.change.proofs.Passing.{answer-ended}
+use mathlib.Core.Path.{sym, _∙_}
+use Rattle.change.proofs.Passing.{answer-ended, answer-found}
 use Rattle.change.specs.Change.{numberOf, placeOf, timetableOf}
-use Rattle.change.specs.declared.Answer.{Answer}
-use Rattle.numbers.specs.Numbers.{ACCEPTED}
-use Rattle.timetable.specs.declared.Timetable.{Timetable}
 use Rattle.change.proofs.answering.finish.Statement.{statement}
 use Rattle.change.proofs.answering.finish.Tie as tie
 
@@ -14,7 +11,7 @@ enum-known-ending c = search needs
 
 new-timetable-requires : tie.Need-new-timetable-requires
 new-timetable-requires c κs =
-    let p = c .before .before .before .before .pre in
+    let p = c .before .before .before .before .pre .0 in
     (p .size _ (c .before .ending .given .1), p .slot)
 
 enum-known-ending-2 : tie.Need-enum-known-ending-2
@@ -30,12 +27,11 @@ no-schedule-requires-2 : tie.Need-no-schedule-requires-2
 no-schedule-requires-2 c κs = search needs
 
 returns : tie.Need-returns
-unfolding numberOf placeOf timetableOf
 returns c =
     let e = c .before .before in
-    let a = e .before .before .before .args in
-    ap {B = Answer} (λ (t : Timetable). record { number = ACCEPTED; place = 0; tries = a .found .tries; timetable = t }) (c .new-timetable .ensures)
-    ∙ sym (answer-ended (a .t) (a .asked) (a .found) _ (e .ending .given .1))
+    let k = e .before .before .before in
+    let a = k .args in
+    answer-found (a .t) (a .asked) (a .found) _ (e .ending .given .1) (a .starts) (k .pre .1) (c .new-timetable .result) (c .new-timetable .ensures)
 
 returns-2 : tie.Need-returns-2
 unfolding numberOf placeOf timetableOf

@@ -2,8 +2,7 @@
 use borrow.Author.Needs.{needs}
 use mathlib.Core.Logic.{inl, inr}
 use mathlib.Core.Path.{_≡_, sym, _∙_}
-use Rattle.change.proofs.StageSteps.{enter-none, enter-asked, listed-shortfall, new-shortfall}
-use Rattle.timetable.specs.Timetable.{entersWith}
+use Rattle.change.proofs.StageSteps.{enter-none, enter-asked, entersWith, listed-shortfall, new-shortfall}
 use Rattle.change.proofs.before.enter.Statement.{statement}
 use Rattle.change.proofs.before.enter.Tie as tie
 
@@ -24,7 +23,7 @@ none-requires c κs = search needs
 returns : tie.Need-returns
 returns c =
     let a = c .before .before .before .args in
-    c .none .ensures ∙ enter-none (a .old) (a .elapsed) (a .ask) (c .before .if1 .taken)
+    c .none .ensures ∙ enter-none (a .old) (entersWith (a .old) (a .elapsed)) (a .ask) (c .before .if1 .taken)
 
 is-listed-requires : tie.Need-is-listed-requires
 is-listed-requires c κs = search needs
@@ -39,7 +38,7 @@ returns-2 : tie.Need-returns-2
 returns-2 c =
     let e = c .before .before .before in
     let a = e .before .before .args in
-    enter-asked (a .old) (a .elapsed) (a .ask) (c .asked-bound .result) (c .before .if2 .shortfall) (e .if1 .left) (c .asked-bound .ensures) (met (c .before))
+    enter-asked (a .old) (entersWith (a .old) (a .elapsed)) (a .ask) (c .asked-bound .result) (c .before .if2 .shortfall) (e .if1 .left) (c .asked-bound .ensures) (met (c .before))
 
 pub enter-spec : {M : Type 1} → statement M
 enter-spec = tie.close (tie.spec none-requires returns is-listed-requires shortfall-after-requires asked-bound-requires returns-2)

@@ -2,22 +2,25 @@
 use borrow.Author.Needs.{needs}
 use lib.ListN.{replicate}
 use mathlib.Core.List.{List}
-use mathlib.Core.Path.{_≡_, ap}
+use mathlib.Core.Path.{_≡_, ap, _∙_}
 use native.Mathlib.Omega.{arith}
-use Prim.Native.Nat.{_-_, _≤_}
-use Rattle.change.proofs.StageSteps.{listed-in-range, entered}
+use Prim.Native.Nat.{ℕ, _-_, _≤_}
+use Rattle.change.proofs.StageSteps.{entered}
 use Rattle.change.specs.Change.{startPlan}
-use Rattle.change.specs.Stages.{startEntries}
+use Rattle.change.specs.Stages.{entering, startEntries}
+use Rattle.records.specs.Request.{askOf}
 use Rattle.slots.specs.Limits.{IDS, LONGEST}
 use Rattle.timetable.proofs.Entries.{each-all, each-next}
+use Rattle.timetable.proofs.Since.{start-cycle}
+use Rattle.timetable.proofs.Sound.{listed-in-range, sound-from}
 use Rattle.timetable.specs.declared.Entry.{Entry}
-use Rattle.timetable.specs.Timetable.{each}
+use Rattle.timetable.specs.Timetable.{each, entryOf}
 use Rattle.transition.specs.declared.Plan.{Plan}
 use Rattle.change.proofs.before.start_plan.Statement.{statement}
 use Rattle.change.proofs.before.start_plan.Tie as tie
 
 abbrev Inv-loop : tie.InvT-loop
-Inv-loop t asked elapsed entries₀ id₀ entries id = (id ≤ IDS) × (entries ≡ entered t (asked .asks) elapsed id)
+Inv-loop t asked elapsed entries₀ id₀ entries id = (id ≤ IDS) × (entries ≡ entered t (asked .slot) (asked .asks) id)
 
 abbrev μ-loop : tie.MeasureT-loop
 μ-loop t asked elapsed entries₀ id₀ entries id = IDS - id
@@ -67,7 +70,13 @@ loop-again c =
     let i = c .before .before .before in
     let l = i .before .loop in
     let a = i .before .before .before .args in
-    (omega (arith, i .loop-test .taken), each-next _ _ (l .id) (l .entries) (c .enter .result) (l .inv .1) (c .enter .ensures))
+    let s = i .before .before .before in
+    let t = a .t1 in
+    let here = start-cycle t (sound-from t (s .pre .0)) (l .id) (i .loop-test .taken) (a .t2 .slot) (s .pre .1) in (
+      omega (arith, i .loop-test .taken),
+      each-next _ _ (l .id) (l .entries) (c .enter .result) (l .inv .1)
+          (c .enter .ensures ∙ ap (λ (x : ℕ). entering (entryOf (t .entries) (l .id)) x (askOf (a .t2 .asks) (l .id))) here),
+    )
 
 returns : tie.Need-returns Inv-loop μ-loop
 unfolding startPlan startEntries

@@ -2,8 +2,9 @@
 use borrow.Author.Needs.{needs}
 use mathlib.Core.Bool.{true, _&&_}
 use mathlib.Core.Path.{_≡_, sym, _∙_}
+use Rattle.slots.proofs.Below.{and-both}
 use Rattle.timetable.proofs.ScanLaws.{refused, passed}
-use Rattle.timetable.proofs.SoundLaws.{placed, placed-length, length-known, sound-placed, sound-owners, sound-entries, sound-unused}
+use Rattle.timetable.proofs.SoundLaws.{placed, placed-length, length-known, sound-placed, sound-owners, sound-entries, sound-unused, sound-starts}
 use Rattle.timetable.specs.Sound.{ownersListed, entriesInRange, noneShared}
 use Rattle.timetable.proofs.Timetable.is_sound.Statement.{statement}
 use Rattle.timetable.proofs.Timetable.is_sound.Tie as tie
@@ -51,10 +52,30 @@ unused-owners-zero-requires c κs =
 
 returns-4 : tie.Need-returns-4
 returns-4 c =
-    let k = c .before .before .before in
+    let k = c .before .before .before .before in
     let l = k .before .before in
     let m = l .before .before in
-    c .unused-owners-zero .ensures ∙ sym (sound-unused (m .before .before .args .t1) (first m) (second l) (third k))
+    sym (sound-unused (m .before .before .args .t1) (first m) (second l) (third k) (refused _ _ (c .before .unused-owners-zero .ensures) (c .if4 .taken)))
+
+starts-arrive-requires : tie.Need-starts-arrive-requires
+starts-arrive-requires c κs =
+    let k = c .before .before .before .before in
+    let l = k .before .before in
+    let m = l .before .before in
+    record {
+      size = placed-length (m .before .before .args .t1) (first m);
+      owners = second l;
+      entries = and-both (entriesInRange (m .before .before .args .t1 .entries)) (noneShared (m .before .before .args .t1 .entries)) (third k) .0;
+    }
+
+returns-5 : tie.Need-returns-5
+returns-5 c =
+    let j = c .before in
+    let k = j .before .before .before .before in
+    let l = k .before .before in
+    let m = l .before .before in
+    c .starts-arrive .ensures
+    ∙ sym (sound-starts (m .before .before .args .t1) (first m) (second l) (third k) (passed _ _ (j .before .unused-owners-zero .ensures) (j .if4 .left)))
 
 pub is-sound-spec : {M : Type 1} → statement M
 is-sound-spec =
@@ -67,4 +88,6 @@ is-sound-spec =
     entries-fit-requires
     returns-3
     unused-owners-zero-requires
-    returns-4)
+    returns-4
+    starts-arrive-requires
+    returns-5)

@@ -28,8 +28,8 @@ mul-e c = search needs
 array-copy-out-e : tie.Need-array-copy-out-e Inv-loop μ-loop
 array-copy-out-e c = search needs
 
-over-slot-requires : tie.Need-over-slot-requires Inv-loop μ-loop
-over-slot-requires c κs =
+over-entry-requires : tie.Need-over-entry-requires Inv-loop μ-loop
+over-entry-requires c κs =
     let i = c .before in
     let s = i .before .before in
     owes-less (s .args .t1) (s .pre) (i .before .loop .id) (i .loop-test .taken)
@@ -50,7 +50,7 @@ loop-again : tie.Need-loop-again Inv-loop μ-loop
 loop-again c =
     let l = c .before .before .before .loop in
     let a = c .before .before .before .before .args in
-    (omega arith, each-next _ (a .t1) (l .id) (l .over) (c .over-slot .result) (l .inv .1) (c .over-slot .ensures))
+    (omega arith, each-next _ (a .t1) (l .id) (l .over) (c .over-entry .result) (l .inv .1) (c .over-entry .ensures))
 
 returns : tie.Need-returns Inv-loop μ-loop
 unfolding overAll
@@ -65,7 +65,7 @@ over-all-spec =
     loop-holds
     mul-e
     array-copy-out-e
-    over-slot-requires
+    over-entry-requires
     mul-over
     array-set-from-over
     add-id
