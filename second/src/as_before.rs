@@ -2,12 +2,13 @@
 //! and on random histories. Here the R of a short field is taken from the bytes of the timetable's
 //! image, and the request in full is made from the bytes of its record.
 
-use crate::breaks::{broken, built, CLAUSES};
+use crate::breaks::{broken, CLAUSES};
+use crate::built::built;
 use crate::cases::{record, request_a, request_b, request_left, request_short};
 use crate::change::{change, Outcome};
 use crate::counts::{ProbeCounts, RequestCounts};
 use crate::generate::Generator;
-use crate::probe::image_of;
+use crate::probe::{image_of, IMAGE};
 use crate::probes::Probes;
 use crate::random::Random;
 use crate::records::{read_request, Ask};
@@ -255,7 +256,7 @@ fn shortened(random: &mut Random, record: &[u8]) -> Vec<u8> {
 
 /// The request with R 1 in each short field's place.
 fn with_one(record: &[u8]) -> Vec<u8> {
-    in_full(&[0; 273], record)
+    in_full(&[0; IMAGE], record)
 }
 
 /// What a request comes to: the outcome, and the bytes that the area then has.

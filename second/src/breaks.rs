@@ -1,10 +1,13 @@
 //! Timetables with one clause of soundness broken, at its boundary and beyond; now and then the
 //! last value that is still sound is taken instead.
 
+use crate::built::{
+    leave_out_transition, led_to, lengthen, limit, listed_ids, match_base, settle, some_listed,
+    unlisted_ids,
+};
 use crate::random::Random;
-use crate::slots::own_slots;
 use crate::timetable::{
-    Entry, Share, Timetable, CYCLE, IDLE, IDS, LARGEST_BOUND, LARGEST_EXPONENT, LAST_SLOT,
+    Entry, Timetable, CYCLE, IDLE, IDS, LARGEST_BOUND, LARGEST_EXPONENT, LAST_SLOT,
     LONGEST_TRANSITION,
 };
 
@@ -81,7 +84,9 @@ fn length(random: &mut Random, timetable: &mut Timetable) {
         3 => random.between(66, 254) as u8,
         _ => u8::MAX,
     };
-    lengthen(random, timetable, length);
+    lengthen(random, timetable, LONGEST_TRANSITION as u8);
+    timetable.length = length;
+    match_base(timetable);
 }
 
 /// The base is one more, one less or far off, or the sum would pass 64 bits.
@@ -120,13 +125,13 @@ fn owner(random: &mut Random, timetable: &mut Timetable) {
     let between = random.between(0, last);
     let at = random.pick(&[0, last, between]).unwrap_or(0);
     timetable.owners[at as usize] = owner;
+    settle(timetable);
 }
 
 /// An owner after the transition is not zero.
 fn unused_owner(random: &mut Random, timetable: &mut Timetable) {
     if usize::from(timetable.length) == LONGEST_TRANSITION {
-        let length = random.below(LONGEST_TRANSITION as u64) as u8;
-        lengthen(random, timetable, length);
+        leave_out_transition(timetable);
     }
     let (first, last) = (u64::from(timetable.length), LONGEST_TRANSITION as u64 - 1);
     let between = random.between(first, last);
@@ -154,6 +159,7 @@ fn period(random: &mut Random, timetable: &mut Timetable) {
         *entry = Entry { offset: entry.offset.min(2), bound: LARGEST_BOUND, ..*entry };
     }
     timetable.entries[id].period = period;
+    settle(timetable);
 }
 
 /// A bound is 0, 9 or above, or 8.
@@ -179,7 +185,7 @@ fn offset(random: &mut Random, timetable: &mut Timetable) {
         *entry = Entry { period: 1 << random.below(8), bound: LARGEST_BOUND, ..Entry::default() };
     }
     if random.chance(3, 4) {
-        (entry.bound, entry.shortfall) = (LARGEST_BOUND, 0);
+        (entry.bound, timetable.starts[id]) = (LARGEST_BOUND, 0);
     }
     let (period, before) = (entry.period, u16::from(entry.offset));
     let offset = match random.below(6) {
@@ -190,18 +196,35 @@ fn offset(random: &mut Random, timetable: &mut Timetable) {
         _ => random.between(u64::from(period), 255) as u16,
     };
     entry.offset = offset.min(255) as u8;
+    settle(timetable);
 }
 
-/// Shortfall + offset x weight is exactly 256 R, one below, or above.
+/// Shortfall + offset x weight is exactly 256 R, one below, or above, and the transition leads there.
 fn shortfall(random: &mut Random, timetable: &mut Timetable) {
     let id = some_listed(random, timetable);
+    if timetable.length == 0 && random.chance(1, 2) {
+        let length = random.between(1, 8) as u8;
+        lengthen(random, timetable, length);
+    }
     let limit = limit(&timetable.entries[id]);
-    timetable.entries[id].shortfall = match random.below(8) {
+    let shortfall = match random.below(8) {
         0..=2 => limit,
         3..=5 => limit - 1,
         6 => limit + random.between(1, 300) as u16,
         _ => random.pick(&[2048, 4096, 1 << 15, u16::MAX, limit + 256]).unwrap_or(limit),
     };
+    arrive(timetable, id, shortfall);
+}
+
+/// A partition has a shortfall at the base, with a start below 256 R that leads there; if there is
+/// none, the transition is left out.
+fn arrive(timetable: &mut Timetable, id: usize, shortfall: u16) {
+    timetable.entries[id].shortfall = shortfall;
+    let most = CYCLE as u16 * u16::from(timetable.entries[id].bound);
+    match (0..most).rev().find(|&start| led_to(timetable, id, start) == shortfall) {
+        Some(start) => timetable.starts[id] = start,
+        None => leave_out_transition(timetable),
+    }
 }
 
 /// Two partitions with one period share their slots, or now and then are neighbours.
@@ -239,6 +262,8 @@ fn put_beside(
     let Some(id) = unlisted.or(random.pick(&others)) else { return };
     let bound = random.between(1, u64::from(LARGEST_BOUND)) as u8;
     timetable.entries[id] = Entry { period, offset: offset as u8, bound, shortfall: 0 };
+    timetable.starts[id] = 0;
+    settle(timetable);
 }
 
 /// An unlisted entry has an offset, a bound or a shortfall, or a listed one loses its period.
@@ -257,101 +282,14 @@ fn unlisted(random: &mut Random, timetable: &mut Timetable) {
     }
 }
 
-/// A sound timetable that no history need reach: any offsets, shortfalls and transition owners.
-pub fn built(random: &mut Random) -> Timetable {
-    let mut timetable = Timetable::empty();
-    let most = random.pick(&[3, 8, 60]).unwrap_or(3);
-    for _ in 0..random.below(most) {
-        let longest = random.pick(&[3, 5, 8, 8]).unwrap_or(8);
-        let period = 1 << random.between(0, longest);
-        let offset = random.below(period) as u16;
-        place(random, &mut timetable, period as u16, offset);
-    }
-    timetable.request_slot = match random.below(5) {
-        0 => 0,
-        1 => LAST_SLOT - random.below(100),
-        2 => random.below(LAST_SLOT + 1),
-        _ => random.below(2000),
-    };
-    let length = random.between(0, LONGEST_TRANSITION as u64) as u8;
-    let lengths = [0, 1, LONGEST_TRANSITION as u8, length];
-    let length = random.pick(&lengths).filter(|_| !listed_ids(&timetable).is_empty());
-    lengthen(random, &mut timetable, length.unwrap_or(0));
-    timetable
-}
-
-/// A partition is listed with some bound and a shortfall within it, if its slots are free.
-fn place(random: &mut Random, timetable: &mut Timetable, period: u16, offset: u16) {
-    let mut taken = [false; CYCLE];
-    for entry in timetable.entries.iter().filter(|entry| entry.listed()) {
-        own_slots(u16::from(entry.offset), entry.period).for_each(|slot| taken[slot] = true);
-    }
-    let free = own_slots(offset, period).all(|slot| !taken[slot]);
-    let Some(id) = random.pick(&unlisted_ids(timetable)).filter(|_| free) else { return };
-    let bound = random.between(1, u64::from(LARGEST_BOUND)) as u8;
-    let mut entry = Entry { period, offset: offset as u8, bound, shortfall: 0 };
-    let limit = limit(&entry);
-    let within = random.below(u64::from(limit)) as u16;
-    entry.shortfall = random.pick(&[0, within, within, limit - 1]).unwrap_or(0);
-    timetable.entries[id] = entry;
-}
-
-/// The first shortfall at which an entry's bound would be broken before its first slice.
-fn limit(entry: &Entry) -> u16 {
-    let weight = Share { period: entry.period, bound: entry.bound }.weight() as u16;
-    let before_slice = u16::from(entry.offset).saturating_mul(weight);
-    (CYCLE as u16 * u16::from(entry.bound)).saturating_sub(before_slice).max(1)
-}
-
-/// The transition gets a length with listed owners, the base to match, and zeros after it.
-fn lengthen(random: &mut Random, timetable: &mut Timetable, length: u8) {
-    if length > 0 {
-        some_listed(random, timetable);
-    }
-    let ids = listed_ids(timetable);
-    let kept = usize::from(timetable.length);
-    for (at, owner) in timetable.owners.iter_mut().enumerate() {
-        if at >= usize::from(length) {
-            *owner = 0;
-        } else if at >= kept {
-            *owner = random.pick(&ids).unwrap_or(0) as u8;
-        }
-    }
-    timetable.length = length;
-    match_base(timetable);
-}
-
-/// The base is the request slot + the length.
-fn match_base(timetable: &mut Timetable) {
-    timetable.base = timetable.request_slot.wrapping_add(u64::from(timetable.length));
-}
-
 /// No other partition is listed, and the whole transition is the given one's.
 fn alone(timetable: &mut Timetable, id: usize) {
     for (other, entry) in timetable.entries.iter_mut().enumerate() {
         if other != id {
             *entry = Entry::default();
+            timetable.starts[other] = 0;
         }
     }
     let used = usize::from(timetable.length);
     timetable.owners.iter_mut().take(used).for_each(|owner| *owner = id as u8);
-}
-
-/// A listed id; if nothing is listed, one that is listed now.
-fn some_listed(random: &mut Random, timetable: &mut Timetable) -> usize {
-    if listed_ids(timetable).is_empty() {
-        let period = 1 << random.between(0, u64::from(LARGEST_EXPONENT));
-        place(random, timetable, period, 0);
-    }
-    random.pick(&listed_ids(timetable)).unwrap_or(0)
-}
-
-/// The ids that are listed.
-pub fn listed_ids(timetable: &Timetable) -> Vec<usize> {
-    (0..IDS).filter(|&id| timetable.entries[id].listed()).collect()
-}
-
-/// The ids that are not listed.
-fn unlisted_ids(timetable: &Timetable) -> Vec<usize> {
-    (0..IDS).filter(|&id| !timetable.entries[id].listed()).collect()
 }

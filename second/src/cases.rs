@@ -172,14 +172,20 @@ fn change_probe(timetable: &Timetable, request: &[u8], area: u16) -> Vec<u8> {
 fn late_slice() -> Timetable {
     let mut timetable = Timetable::empty();
     timetable.entries[3] = Entry { period: 4, offset: 0, bound: 1, shortfall: 192 };
+    timetable.starts[3] = 192;
     timetable
 }
 
-/// All 32 ids with period 32, each with its own offset, after a transition of 64 slots.
+/// All 32 ids with period 32, each with its own offset, after a transition of 64 slots that serves
+/// each in turn, twice: at the base an id has waited for 31 slots less its id.
 pub fn all_listed() -> Timetable {
     let mut timetable = Timetable { length: 64, base: 64, ..Timetable::empty() };
-    for (offset, entry) in (0..).zip(&mut timetable.entries) {
-        *entry = Entry { period: 32, offset, bound: 1, shortfall: 0 };
+    for (slot, owner) in (0..).zip(&mut timetable.owners) {
+        *owner = slot % IDS as u8;
+    }
+    for (id, entry) in (0..).zip(&mut timetable.entries) {
+        let shortfall = 8 * (31 - u16::from(id));
+        *entry = Entry { period: 32, offset: id, bound: 1, shortfall };
     }
     timetable
 }

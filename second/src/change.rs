@@ -69,10 +69,12 @@ pub fn bound_before(timetable: &Timetable, id: usize) -> u8 {
     }
 }
 
-/// A found schedule: transition owners, offsets, shortfalls at the base, and tries.
+/// A found schedule: transition owners, offsets, shortfalls at the request slot and at the base, and
+/// tries.
 struct Schedule {
     owners: Vec<u8>,
     offsets: [u16; IDS],
+    starts: Shortfalls,
     shortfalls: Shortfalls,
     tries: u16,
 }
@@ -128,8 +130,8 @@ fn within_core(listing: &Listing) -> Result<(), Refusal> {
 /// Rule 1, beside the R as before: the shortfalls at the request slot; a newly listed partition starts at 0.
 fn shortfalls_at(timetable: &Timetable, request: &Request) -> Shortfalls {
     let mut shortfalls = [0; IDS];
-    let mut walk = Walk::from_base(timetable);
-    walk.pass(request.slot.saturating_sub(timetable.base));
+    let mut walk = Walk::from_request_slot(timetable);
+    walk.pass(request.slot.saturating_sub(timetable.request_slot));
     for (id, _) in listed(&request.listing) {
         if timetable.entries[id].listed() {
             shortfalls[id] = walk.shortfalls[id];
@@ -147,13 +149,13 @@ fn within_bounds(listing: &Listing, shortfalls: &Shortfalls) -> Result<(), Refus
 }
 
 /// Rule 2: lengths 0, 1, 2 and so on up to T are tried; the first that succeeds is the answer.
-fn search(request: &Request, at_request: Shortfalls) -> Result<Schedule, Refusal> {
-    let mut shortfalls = at_request;
+fn search(request: &Request, starts: Shortfalls) -> Result<Schedule, Refusal> {
+    let mut shortfalls = starts;
     let mut owners = Vec::new();
     loop {
         let tries = owners.len() as u16 + 1;
         if let Some(offsets) = placement(&request.listing, &shortfalls) {
-            return Ok(Schedule { owners, offsets, shortfalls, tries });
+            return Ok(Schedule { owners, offsets, starts, shortfalls, tries });
         }
         let place = owners.len() as u64;
         if owners.len() == usize::from(request.longest) {
@@ -217,6 +219,7 @@ fn renewed(request: &Request, schedule: &Schedule) -> Timetable {
         owners,
         base: request.slot + length as u64,
         entries,
+        starts: schedule.starts.map(|start| start as u16),
     }
 }
 

@@ -47,12 +47,12 @@ fn same_standing(run: &Run, id: u8, slot: u64) {
     if present.lists(id) {
         let (_, shortfall, slices) = standing_query(&present, id, slot);
         assert_eq!(run.shortfall(id, slot), i64::from(shortfall));
-        assert_eq!(run.supply(id, present.base..slot), slices as i64);
+        assert_eq!(run.supply(id, present.request_slot..slot), slices as i64);
         assert_eq!(run.shortfall(id, slot), largest_excess(run, id, slot));
     }
 }
 
-/// From the base on, for some slots, the run is what the queries tell.
+/// From the request slot on, for some slots, the run is what the queries tell.
 fn same_run(run: &Run, slots: Range<u64>) {
     for slot in slots {
         assert_eq!(run.owner(slot), owner_query(&run.present(), slot).1);
@@ -71,7 +71,7 @@ fn the_run_agrees_with_queries_and_windows() {
         let request = any_request(&mut random, run.present().base);
         run = run.after(&request);
         lengths += u64::from(run.present().length);
-        same_run(&run, run.present().base..run.present().base + 9);
+        same_run(&run, run.present().request_slot..run.present().base + 9);
     }
     assert!(lengths > 20, "transitions are among them: {lengths}");
 }

@@ -9,6 +9,7 @@ pub mod archive_counts;
 pub mod archives;
 pub mod asking;
 pub mod breaks;
+pub mod built;
 pub mod cases;
 pub mod change;
 pub mod counts;

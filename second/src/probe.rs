@@ -7,10 +7,10 @@ use crate::asking::Asking;
 use crate::change::change;
 use crate::numbers;
 use crate::queries::{owner_query, standing_query};
-use crate::timetable::{Entry, Timetable, IDS, LONGEST_TRANSITION};
+use crate::timetable::{Entry, Timetable};
 
 /// The bytes of a timetable's image.
-pub const IMAGE: usize = 273;
+pub const IMAGE: usize = 337;
 /// The kinds of probes: change, owner query, standing query, the empty timetable, reading an answer,
 /// writing a request, and a field of an answer.
 pub const CHANGE: u8 = 1;
@@ -301,12 +301,15 @@ pub fn timetable_of(image: &[u8]) -> Option<Timetable> {
         let (bound, shortfall) = (fields.byte(), fields.number(2) as u16);
         *entry = Entry { period, offset, bound, shortfall };
     }
+    for start in &mut timetable.starts {
+        *start = fields.number(2) as u16;
+    }
     Some(timetable)
 }
 
 /// The image of a timetable: its fields in their order, numbers high byte first.
 pub fn image_of(timetable: &Timetable) -> Vec<u8> {
-    let mut image = Vec::with_capacity(17 + LONGEST_TRANSITION + 6 * IDS);
+    let mut image = Vec::with_capacity(IMAGE);
     image.extend(timetable.request_slot.to_be_bytes());
     image.push(timetable.length);
     image.extend(timetable.owners);
@@ -315,6 +318,9 @@ pub fn image_of(timetable: &Timetable) -> Vec<u8> {
         image.extend(entry.period.to_be_bytes());
         image.extend([entry.offset, entry.bound]);
         image.extend(entry.shortfall.to_be_bytes());
+    }
+    for start in timetable.starts {
+        image.extend(start.to_be_bytes());
     }
     image
 }

@@ -1,7 +1,8 @@
 //! The probe by itself: images, packing, areas and contents cut off; that each clause of soundness
 //! is broken on its own; and what the streams of probes reach.
 
-use crate::breaks::{broken, built, Clause, CLAUSES};
+use crate::breaks::{broken, Clause, CLAUSES};
+use crate::built::built;
 use crate::change::{change, AREA};
 use crate::counts::ProbeCounts;
 use crate::frames::{frame, print_probes, LONGEST_FRAME};
@@ -32,7 +33,8 @@ fn fields_of_an_image() {
         image[at] = byte;
     }
     image[83..87].copy_from_slice(&[10, 11, 12, 13]);
-    image[267..].copy_from_slice(&[14, 15, 16, 17, 18, 19]);
+    image[267..277].copy_from_slice(&[14, 15, 16, 17, 18, 19, 20, 21, 22, 23]);
+    image[335..].copy_from_slice(&[24, 25]);
     let timetable = timetable_of(&image).unwrap_or(Timetable::empty());
     assert_eq!(timetable.request_slot, (1 << 56) + 2);
     assert_eq!((timetable.length, timetable.owners[0], timetable.owners[63]), (3, 4, 5));
@@ -40,6 +42,7 @@ fn fields_of_an_image() {
     let first = Entry { period: 0x0809, offset: 10, bound: 11, shortfall: 0x0c0d };
     let last = Entry { period: 0x0e0f, offset: 16, bound: 17, shortfall: 0x1213 };
     assert_eq!((timetable.entries[0], timetable.entries[31]), (first, last));
+    assert_eq!([0, 1, 31].map(|id| timetable.starts[id]), [0x1415, 0x1617, 0x1819]);
     assert_eq!(image_of(&timetable), image);
 }
 
@@ -113,7 +116,7 @@ fn areas_in_lines() {
     assert_eq!(area(0, &[1]), "+0");
 }
 
-/// An image of another length than 273 bytes is refused 1; image and area stay as they are.
+/// An image of another length than 337 bytes is refused 1; image and area stay as they are.
 #[test]
 fn images_of_another_length() {
     let change = |image: &[u8]| {
@@ -121,10 +124,10 @@ fn images_of_another_length() {
         probe_line(&change_content(&image_field(image), &request, 300, &[5]))
     };
     assert_eq!(change(&[9, 0, 7]), "change 1 0 0 0 09000107 +300");
-    assert_eq!(change(&[0; 272]), "change 1 0 0 0 00ff0011 +300");
-    assert!(change(&[0; 273]).starts_with("change 0 0 1 17 "));
-    assert_eq!(change(&[0; 274]), "change 1 0 0 0 00ff0013 +300");
-    for length in [272, 274] {
+    assert_eq!(change(&[0; 336]), "change 1 0 0 0 00ff0051 +300");
+    assert!(change(&[0; 337]).starts_with("change 0 0 1 17 "));
+    assert_eq!(change(&[0; 338]), "change 1 0 0 0 00ff0053 +300");
+    for length in [273, 336, 338] {
         let image = image_field(&vec![0; length]);
         assert_eq!(probe_line(&owner_content(&image, 0)), "owner 1 0 0");
         assert_eq!(probe_line(&standing_content(&image, 0, 0)), "standing 1 0 0 0");
@@ -142,17 +145,17 @@ fn contents_cut_off() {
     assert_eq!(probe_line(&[1, 0, 3]), "change 1 0 0 0 0003 +0");
     assert_eq!(probe_line(&whole[..2]), "change 1 0 0 0 00ff0001 +0");
     for end in 3..whole.len() - 2 {
-        assert_eq!(probe_line(&whole[..end]), "change 2 0 0 0 00ff0012 +0");
+        assert_eq!(probe_line(&whole[..end]), "change 2 0 0 0 00ff0052 +0");
     }
     assert!(probe_line(&whole[..whole.len() - 2]).ends_with("+239"));
     assert!(probe_line(&whole[..whole.len() - 1]).ends_with("0102+283"));
     assert_eq!(probe_line(&[2]), "owner 1 0 0");
-    assert_eq!(probe_line(&[2, 1, 17]), "owner 0 0 255");
-    assert_eq!(probe_line(&[3, 1, 17]), "standing 10 0 0 0");
-    assert_eq!(probe_line(&[4, 1, 17, 9]), "empty 0 00ff0012");
-    assert_eq!(probe_line(&[4, 1, 16, 9]), "empty 1 0900ff0010");
+    assert_eq!(probe_line(&[2, 1, 81]), "owner 0 0 255");
+    assert_eq!(probe_line(&[3, 1, 81]), "standing 10 0 0 0");
+    assert_eq!(probe_line(&[4, 1, 81, 9]), "empty 0 00ff0052");
+    assert_eq!(probe_line(&[4, 1, 80, 9]), "empty 1 0900ff0050");
     for kind in [0, 8, 255] {
-        assert_eq!(probe_line(&[kind, 1, 17]), "bad probe");
+        assert_eq!(probe_line(&[kind, 1, 81]), "bad probe");
     }
 }
 

@@ -1,7 +1,8 @@
 //! Random streams of probes: timetables that histories reach, with one clause of soundness broken
 //! or otherwise altered, under requests that aim, damaged ones, any areas and any queries.
 
-use crate::breaks::{broken, built, listed_ids, Clause, CLAUSES};
+use crate::breaks::{broken, Clause, CLAUSES};
+use crate::built::{built, listed_ids};
 use crate::cases;
 use crate::frames::LONGEST_FRAME;
 use crate::generate::Generator;

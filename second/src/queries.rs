@@ -29,8 +29,8 @@ fn owner_at(timetable: &Timetable, slot: u64) -> u8 {
     cycle_owners(&timetable.entries)[in_cycle as usize]
 }
 
-/// Standing query: the number, the shortfall at the slot's start and the slices had from the base
-/// up to there; it refuses 1, 4, 6, then 10.
+/// Standing query: the number, the shortfall at the slot's start and the slices had from the request
+/// slot up to there; it refuses 1, 4, 6, then 10.
 pub fn standing_query(timetable: &Timetable, id: u8, slot: u64) -> (u8, u16, u64) {
     if !timetable.sound() {
         return (numbers::NOT_SOUND, 0, 0);
@@ -38,7 +38,7 @@ pub fn standing_query(timetable: &Timetable, id: u8, slot: u64) -> (u8, u16, u64
     if usize::from(id) >= IDS || slot > LAST_SLOT {
         return (numbers::OUT_OF_RANGE, 0, 0);
     }
-    if slot < timetable.base {
+    if slot < timetable.request_slot {
         return (numbers::TOO_EARLY, 0, 0);
     }
     if !timetable.lists(id) {
@@ -48,9 +48,9 @@ pub fn standing_query(timetable: &Timetable, id: u8, slot: u64) -> (u8, u16, u64
     (numbers::ACCEPTED, shortfall, slices)
 }
 
-/// A listed partition's shortfall at a slot from the base on and its slices up to there.
+/// A listed partition's shortfall at a slot from the request slot on and its slices up to there.
 fn standing_at(timetable: &Timetable, id: usize, slot: u64) -> (u16, u64) {
-    let mut walk = Walk::from_base(timetable);
-    walk.pass(slot.saturating_sub(timetable.base));
+    let mut walk = Walk::from_request_slot(timetable);
+    walk.pass(slot.saturating_sub(timetable.request_slot));
     (walk.shortfalls[id] as u16, walk.slices[id])
 }

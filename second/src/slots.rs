@@ -1,5 +1,5 @@
 //! The slot layer: how a shortfall changes over one slot, who owns the slots of a cycle,
-//! and the walk from the base, one slot at a time.
+//! and the walk from the request slot, one slot at a time.
 
 use crate::timetable::{Entry, Listing, Share, Timetable, CYCLE, IDLE, IDS, LARGEST_BOUND};
 
@@ -76,40 +76,51 @@ pub fn pass_slot(listing: &Listing, shortfalls: &mut Shortfalls, owner: u8) {
     }
 }
 
-/// A walk through the cyclic slots, with the shortfalls and slices at the place reached.
+/// A walk through the transition and then the cycle, with the shortfalls and slices at the place
+/// reached.
 #[derive(Clone)]
 pub struct Walk {
     weights: Vec<(usize, i64)>,
-    owners: [u8; CYCLE],
-    position: usize,
+    transition: Vec<u8>,
+    cycle: [u8; CYCLE],
+    passed: usize,
     pub shortfalls: Shortfalls,
     pub slices: [u64; IDS],
 }
 
 impl Walk {
-    /// The walk starts at the base with the shortfalls there.
-    pub fn from_base(timetable: &Timetable) -> Walk {
+    /// The walk starts at the request slot with the shortfalls there, and without a slice.
+    pub fn from_request_slot(timetable: &Timetable) -> Walk {
         let listed = timetable.listing();
         let weights = listed.iter().enumerate();
         Walk {
             weights: weights.filter_map(|(id, share)| Some((id, (*share)?.weight()))).collect(),
-            owners: cycle_owners(&timetable.entries),
-            position: 0,
-            shortfalls: timetable.entries.map(|entry| i64::from(entry.shortfall)),
+            transition: timetable.transition().to_vec(),
+            cycle: cycle_owners(&timetable.entries),
+            passed: 0,
+            shortfalls: timetable.starts.map(i64::from),
             slices: [0; IDS],
+        }
+    }
+
+    /// The owner of the next slot: the transition's while it lasts, and then the cycle's.
+    fn next_owner(&self) -> u8 {
+        match self.passed.checked_sub(self.transition.len()) {
+            None => self.transition[self.passed],
+            Some(since_base) => self.cycle[since_base % CYCLE],
         }
     }
 
     /// One slot passes: its owner has a slice, and every shortfall moves.
     pub fn pass_one(&mut self) {
-        let owner = usize::from(self.owners[self.position]);
+        let owner = usize::from(self.next_owner());
         for &(id, weight) in &self.weights {
             self.shortfalls[id] = next_shortfall(self.shortfalls[id], weight, id == owner);
         }
         if let Some(slices) = self.slices.get_mut(owner) {
             *slices += 1;
         }
-        self.position = if self.position + 1 == CYCLE { 0 } else { self.position + 1 };
+        self.passed += 1;
     }
 
     /// Slots pass one by one, without any skip.
@@ -119,10 +130,13 @@ impl Walk {
         }
     }
 
-    /// Slots pass; once a whole cycle was seen to repeat all shortfalls, whole cycles are skipped.
+    /// Slots pass; once a whole cycle behind the transition was seen to repeat all shortfalls, whole
+    /// cycles are skipped.
     pub fn pass(&mut self, slots: u64) {
         let cycle = CYCLE as u64;
-        let mut left = slots;
+        let before_base = slots.min(self.transition.len().saturating_sub(self.passed) as u64);
+        self.pass_each(before_base);
+        let mut left = slots - before_base;
         while left >= cycle {
             let before = self.clone();
             self.pass_each(cycle);

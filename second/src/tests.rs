@@ -104,6 +104,7 @@ fn case_b() {
     assert_eq!(b.transition(), [1]);
     assert_eq!(offsets(&b, [0, 1, 2]), [0, 2, 1]);
     assert_eq!([0, 1, 2].map(|id| b.entries[id].shortfall), [192, 0, 128]);
+    assert_eq!(b.starts[..4], [128, 192, 0, 0]);
     assert_eq!(accepted(&a, &request_b(64), 2), b);
 }
 
@@ -265,9 +266,17 @@ fn run_only_cases() {
 /// 64 owners and 32 offsets make 231 bytes.
 #[test]
 fn the_longest_answer_has_231_bytes() {
-    let timetable = Timetable { length: 64, base: 64, ..all_listed() };
-    assert!(timetable.sound());
-    assert_eq!(crate::records::write_answer(&timetable).len(), 231);
+    assert!(cases::all_listed().sound());
+    assert_eq!(crate::records::write_answer(&cases::all_listed()).len(), 231);
+}
+
+/// The timetable of slot 0 without a transition that lists these ids.
+fn listing<const N: usize>(entries: [(usize, Entry); N]) -> Timetable {
+    let mut timetable = Timetable::empty();
+    for (id, entry) in entries {
+        (timetable.entries[id], timetable.starts[id]) = (entry, entry.shortfall);
+    }
+    timetable
 }
 
 /// All 32 ids with period 32, each with its own offset.
@@ -408,21 +417,17 @@ fn a_partition_that_returns_starts_at_zero() {
 /// A shortfall of exactly 256 R is refused 8, one less is not.
 #[test]
 fn a_shortfall_of_exactly_the_bound_is_refused() {
-    let mut timetable = Timetable::empty();
-    timetable.entries[7] = Entry { period: 2, offset: 0, bound: 3, shortfall: 512 };
-    assert!(timetable.sound());
-    refused(&timetable, &record(0, 64, &[(7, 1, 2)]), 8, 7, 0);
-    timetable.entries[7].shortfall = 511;
-    accepted(&timetable, &record(0, 64, &[(7, 1, 2)]), 1);
+    let timetable = |shortfall| listing([(7, Entry { period: 2, offset: 0, bound: 3, shortfall })]);
+    assert!(timetable(512).sound());
+    refused(&timetable(512), &record(0, 64, &[(7, 1, 2)]), 8, 7, 0);
+    accepted(&timetable(511), &record(0, 64, &[(7, 1, 2)]), 1);
 }
 
 /// The place of 8 is the lowest id that is behind, not the first that is listed, nor the last.
 #[test]
 fn eight_names_the_lowest_id() {
-    let mut timetable = Timetable::empty();
-    for (id, offset, shortfall) in [(3, 0, 255), (5, 1, 256), (9, 2, 600)] {
-        timetable.entries[id] = Entry { period: 4, offset, bound: 3, shortfall };
-    }
+    let entry = |offset, shortfall| Entry { period: 4, offset, bound: 3, shortfall };
+    let timetable = listing([(3, entry(0, 255)), (5, entry(1, 256)), (9, entry(2, 600))]);
     assert!(timetable.sound());
     refused(&timetable, &record(0, 64, &[(3, 2, 1), (5, 2, 1), (9, 2, 1)]), 8, 5, 0);
     refused(&timetable, &record(0, 64, &[(3, 2, 1), (5, 2, 2), (9, 2, 2)]), 8, 9, 0);
@@ -454,11 +459,11 @@ fn a_transition_of_three_slots() {
 /// Id 0 takes every second slot and others fill the core but for two slots, 128 apart. Ids 11 and
 /// 12 have so much room; below 128 there is only one slot for both.
 fn two_in_want(rooms: [u16; 2]) -> (Timetable, Vec<(u8, u8, u8)>) {
-    let mut timetable = Timetable::empty();
-    for (offset, room) in (0..).zip(rooms) {
-        let entry = Entry { period: 256, offset, bound: 2, shortfall: 255 - room };
-        timetable.entries[11 + usize::from(offset)] = entry;
-    }
+    let entry = |at: usize| {
+        let shortfall = 255 - rooms[at];
+        (11 + at, Entry { period: 256, offset: at as u8, bound: 2, shortfall })
+    };
+    let timetable = listing([0, 1].map(entry));
     let mut shares = vec![(0, 1, 1)];
     shares.extend((1..8).map(|id| (id, 4, 8)));
     shares.extend([(8, 5, 8), (9, 6, 8), (10, 7, 8), (11, 8, 1), (12, 8, 1)]);
@@ -506,20 +511,21 @@ fn the_largest_t_in_vain() {
 /// A transition slot takes 256 of a larger shortfall, and the rest stays.
 #[test]
 fn a_transition_slot_leaves_the_rest() {
-    let mut timetable = Timetable::empty();
-    timetable.entries[0] = Entry { period: 4, offset: 1, bound: 3, shortfall: 640 };
-    timetable.entries[1] = Entry { period: 4, offset: 0, bound: 3, shortfall: 700 };
+    let timetable = listing([
+        (0, Entry { period: 4, offset: 1, bound: 3, shortfall: 640 }),
+        (1, Entry { period: 4, offset: 0, bound: 3, shortfall: 700 }),
+    ]);
     let after = accepted(&timetable, &record(0, 1, &[(0, 2, 3), (1, 2, 3), (2, 1, 2)]), 2);
     assert_eq!(after.transition(), [0]);
     assert_eq!(offsets(&after, [0, 1, 2]), [2, 0, 1]);
     assert_eq!([0, 1, 2].map(|id| after.entries[id].shortfall), [448, 764, 128]);
+    assert_eq!([0, 1, 2].map(|id| after.starts[id]), [640, 700, 0]);
 }
 
 /// Period 2 takes offset 1, so that a period of 4 with last offset 0 finds its slot free.
 #[test]
 fn the_latest_free_offset_is_taken() {
-    let mut timetable = Timetable::empty();
-    timetable.entries[3] = Entry { period: 4, offset: 0, bound: 1, shortfall: 192 };
+    let timetable = listing([(3, Entry { period: 4, offset: 0, bound: 1, shortfall: 192 })]);
     let both = accepted(&timetable, &record(0, 0, &[(0, 1, 1), (3, 2, 1)]), 1);
     assert_eq!(offsets(&both, [0, 3]), [1, 0]);
 }
@@ -598,11 +604,12 @@ fn soundness(timetable: &Timetable, sound: bool) {
 
 /// The timetable of slot 6 that lists some ids from 5 on: period, offset, R and shortfall of each.
 fn listing_from_5<const N: usize>(entries: [(u16, u8, u8, u16); N]) -> Timetable {
-    let mut timetable = Timetable { request_slot: 6, base: 6, ..Timetable::empty() };
-    for (id, (period, offset, bound, shortfall)) in (5..).zip(entries) {
-        timetable.entries[id] = Entry { period, offset, bound, shortfall };
-    }
-    timetable
+    let mut id = 4;
+    let entries = entries.map(|(period, offset, bound, shortfall)| {
+        id += 1;
+        (id, Entry { period, offset, bound, shortfall })
+    });
+    Timetable { request_slot: 6, base: 6, ..listing(entries) }
 }
 
 /// An entry alone on the core, its values at their limits and one step further: no other clause
@@ -687,6 +694,7 @@ fn soundness_of_owners() {
     let mut timetable = listing_from_5([(4, 0, 1, 0), (4, 1, 1, 0)]);
     (timetable.length, timetable.base) = (3, 9);
     timetable.owners[..3].copy_from_slice(&[6, 5, 6]);
+    timetable.entries[5].shortfall = 64;
     soundness(&timetable, true);
     for place in [0, 1, 2] {
         for owner in [0, 4, 7, 32, 5 + 32, IDLE] {
@@ -705,13 +713,13 @@ fn soundness_of_owners() {
 /// A sound timetable may end above the highest slot: every request is then too early.
 #[test]
 fn a_base_above_the_highest_slot() {
-    let mut timetable = Timetable { request_slot: LAST_SLOT, ..all_listed() };
-    timetable.owners = [31; 64];
-    (timetable.length, timetable.base) = (64, LAST_SLOT + 64);
+    let (request_slot, base) = (LAST_SLOT, LAST_SLOT + 64);
+    let timetable = Timetable { request_slot, base, ..cases::all_listed() };
     assert!(timetable.sound());
     refused(&timetable, &record(LAST_SLOT, 0, &[]), 6, 0, 0);
-    assert_eq!(owner_query(&timetable, LAST_SLOT), (0, 31));
-    assert_eq!(standing_query(&timetable, 31, LAST_SLOT), (6, 0, 0));
+    assert_eq!(owner_query(&timetable, LAST_SLOT), (0, 0));
+    assert_eq!(standing_query(&timetable, 31, LAST_SLOT), (0, 0, 0));
+    assert_eq!(standing_query(&timetable, 31, LAST_SLOT + 1), (4, 0, 0));
 }
 
 /// The owner query in the transition, in the cycle, when idle, and refused.
@@ -754,17 +762,18 @@ fn owner_query_agrees_with_stepping() {
 #[test]
 fn standing_query_answers_and_refuses() {
     let b = after_b();
-    assert_eq!(standing_query(&b, 0, 7), (0, 192, 0));
-    assert_eq!(standing_query(&b, 0, 8), (0, 0, 1));
-    assert_eq!(standing_query(&b, 2, 8), (0, 256, 0));
+    let standings = |slot| [0, 1, 2].map(|id| standing_query(&b, id, slot));
+    assert_eq!(standings(6), [(0, 128, 0), (0, 192, 0), (0, 0, 0)]);
+    assert_eq!(standings(7), [(0, 192, 0), (0, 0, 1), (0, 128, 0)]);
+    assert_eq!(standings(8), [(0, 0, 1), (0, 64, 1), (0, 256, 0)]);
     assert_eq!(standing_query(&b, 2, 9), (0, 128, 1));
-    assert_eq!(standing_query(&b, 1, 7 + 4 * 1000), (0, 64, 1000));
+    assert_eq!(standing_query(&b, 1, 7 + 4 * 1000), (0, 64, 1001));
     assert_eq!(standing_query(&b, 32, 7), (4, 0, 0));
     assert_eq!(standing_query(&b, 32, 0), (4, 0, 0));
     assert_eq!(standing_query(&b, 3, LAST_SLOT + 1), (4, 0, 0));
-    assert_eq!(standing_query(&b, 3, 6), (6, 0, 0));
-    assert_eq!(standing_query(&b, 0, 6), (6, 0, 0));
-    assert_eq!(standing_query(&b, 3, 7), (10, 0, 0));
+    assert_eq!(standing_query(&b, 3, 5), (6, 0, 0));
+    assert_eq!(standing_query(&b, 0, 5), (6, 0, 0));
+    assert_eq!(standing_query(&b, 3, 6), (10, 0, 0));
     assert_eq!(standing_query(&b, 31, LAST_SLOT), (10, 0, 0));
 }
 
@@ -773,7 +782,7 @@ fn standing_query_answers_and_refuses() {
 fn far_off_slots() {
     let b = after_b();
     assert_eq!(standing_query(&b, 0, LAST_SLOT), (0, 192, (1 << 46) - 2));
-    assert_eq!(standing_query(&b, 1, LAST_SLOT), (0, 64, (1 << 46) - 2));
+    assert_eq!(standing_query(&b, 1, LAST_SLOT), (0, 64, (1 << 46) - 1));
     assert_eq!(standing_query(&b, 2, LAST_SLOT), (0, 128, (1 << 47) - 4));
     let far = accepted(&b, &record(LAST_SLOT - 1, 0, &[(0, 2, 1), (1, 2, 1), (2, 1, 2)]), 1);
     assert_eq!(far.base, LAST_SLOT - 1);
@@ -786,7 +795,7 @@ fn the_skip_agrees_with_plain_walking() {
     for request in Generator::new(5, 600) {
         let outcome = change(&timetable, &request, &mut [0; AREA]);
         timetable = outcome.timetable;
-        let mut plain = Walk::from_base(&timetable);
+        let mut plain = Walk::from_request_slot(&timetable);
         let start = plain.clone();
         let mut distance = 0;
         for further in [0, 1, 255, 256, 257, 300, 511, 512, 900, 1024, 3000] {
@@ -827,12 +836,14 @@ fn lines_of_the_cases() {
     assert_eq!(lines_of(&input), lines);
 }
 
-/// The image of the empty timetable, packed: 255 zeros and 18.
-const IMAGE_EMPTY: &str = "00ff0012";
+/// The image of the empty timetable, packed: 255 zeros and 82.
+const IMAGE_EMPTY: &str = "00ff0052";
 /// The image after case A: periods 4, offsets 3 and 2, R 1.
-const IMAGE_A: &str = "0052040301000304020100b6";
-/// The image after case B: slot 6, length 1, owner 1, base 7; offsets 0, 2, 1; shortfalls 192, 0, 128.
-const IMAGE_B: &str = "00070601010046070001040001010001c00001040201000302010200018000ae";
+const IMAGE_A: &str = "0052040301000304020100f6";
+/// The image after case B: slot 6, length 1, owner 1, base 7; offsets 0, 2, 1; shortfalls 192, 0, 128;
+/// starts 128, 192, 0.
+const IMAGE_B: &str =
+    "00070601010046070001040001010001c00001040201000302010200018000af800001c0003c";
 /// Case B's answer.
 const ANSWER_B: &str = "1000010111000101120002000012000201021200020201";
 
@@ -843,9 +854,9 @@ fn change_lines() -> Vec<String> {
         .to_vec();
     lines.extend([(); 2].map(|_| format!("change 0 0 1 7 {IMAGE_EMPTY} 10000100110000+224")));
     lines.push(format!("change 7 9 0 0 {IMAGE_EMPTY} +231"));
-    let last_slot = "0002ffffffffffff0043ffffffffffff00c0";
+    let last_slot = "0002ffffffffffff0043ffffffffffff00ff0001";
     lines.push(format!("change 0 0 1 7 {last_slot} 10000100110000+224"));
-    lines.push("change 0 0 1 12 006a0100010100a4 100001001100001200020400+219".to_string());
+    lines.push("change 0 0 1 12 006a0100010100e4 100001001100001200020400+219".to_string());
     let answer_a = "1000010011000012000200031200020102";
     lines.push(format!("change 0 0 1 17 {IMAGE_A} {answer_a}+214"));
     lines.push(format!("change 11 0 1 0 {IMAGE_A} +231"));
@@ -856,11 +867,12 @@ fn change_lines() -> Vec<String> {
 }
 
 /// The probe's lines for the short fields after B: slot 8 with R 2 and shortfalls 0, 64 and 256; slot
-/// 7 without id 2, shortfalls 192 and 0; and slot 7 with it again, R 1 and shortfall 0.
+/// 7 without id 2, shortfalls 192 and 0; and slot 7 with it again, R 1 and shortfall 0. The starts are
+/// these shortfalls.
 fn short_lines() -> Vec<String> {
-    let kept = "000708004808000104000101000304020100014000010201020100af";
-    let left = "0007070048070001040001010001c0000104030100b6";
-    let returned = "0007070048070001040001010001c00001040201000302010100b0";
+    let kept = "000708004808000104000101000304020100014000010201020100b24001003b";
+    let left = "0007070048070001040001010001c0000104030100b7c0003e";
+    let returned = "0007070048070001040001010001c00001040201000302010100b1c0003e";
     let answer = ANSWER_B.replace("1000010111000101", "10000100110000");
     let without = "1000010011000012000200001200020103";
     vec![
@@ -879,8 +891,8 @@ fn area_lines() -> Vec<String> {
         format!("change 0 0 1 17 {IMAGE_A} {answer_a}+215"),
         format!("change 0 0 1 17 {IMAGE_A} {answer_a}+65518"),
         format!("change 2 0 0 0 {IMAGE_EMPTY} +230"),
-        "change 1 0 0 0 00500100c0 +230".to_string(),
-        "change 1 0 0 0 00500100c0 +231".to_string(),
+        "change 1 0 0 0 00500100ff0001 +230".to_string(),
+        "change 1 0 0 0 00500100ff0001 +231".to_string(),
     ]
 }
 
@@ -889,8 +901,8 @@ fn query_lines() -> Vec<String> {
     let owners = ["0 0 255", "0 0 255", "0 0 1", "0 0 0"];
     let after_b = ["6 0 0", "0 0 1", "0 0 0", "0 0 2", "0 0 1", "0 0 2", "0 0 0", "4 0 0"];
     let standings = [
-        ["0 0 128 1", "0 0 192 1", "10 0 0 0", "0 0 192 0", "0 0 0 0", "0 0 128 0"],
-        ["6 0 0 0", "0 0 256 0", "0 0 128 140737488355324", "4 0 0 0", "4 0 0 0", "4 0 0 0"],
+        ["0 0 128 1", "0 0 192 1", "10 0 0 0", "0 0 192 0", "0 0 0 1", "0 0 128 0"],
+        ["0 0 0 0", "0 0 256 0", "0 0 128 140737488355324", "4 0 0 0", "4 0 0 0", "4 0 0 0"],
     ];
     let owners = owners.iter().chain(&after_b).map(|figures| format!("owner {figures}"));
     let standings = standings.iter().flatten().map(|figures| format!("standing {figures}"));
@@ -907,13 +919,14 @@ fn probe_lines_of_the_cases() {
     assert_eq!(changes, change_lines());
     let (others, rest) = rest.split_at(3);
     let after_f = IMAGE_B.replace("00070601010046", "0007070048");
+    let after_f = after_f.replace("00af800001c0003c", "00afc0000380003a");
     let answer_f = ANSWER_B.replace("1000010111000101", "10000100110000");
     assert_eq!(others[0], format!("change 0 0 1 22 {after_f} {answer_f}+209"));
-    let late_slice = "0052020101000f040001010001c000a8";
+    let late_slice = "0052020101000f040001010001c000afc00038";
     let answer = "1000010011000012000200011200020300";
     assert_eq!(others[1], format!("change 0 0 1 17 {late_slice} {answer}+214"));
-    assert!(others[2].starts_with("change 0 0 1 167 0007400048400001201f010003201e"));
-    assert!(others[2].ends_with("1200021e011200021f00+64"));
+    assert!(others[2].starts_with("change 0 0 1 167 0007400048400001200001010001f80001200101"));
+    assert!(others[2].ends_with("1200021e1e1200021f1f+64"));
     let (short, rest) = rest.split_at(3);
     assert_eq!(short, short_lines());
     let (areas, queries) = rest.split_at(7);
@@ -972,6 +985,22 @@ fn a_seed_always_gives_the_same_stream() {
     assert!(stream(3).iter().all(|request| request.len() <= LONGEST_FRAME));
 }
 
+/// A start below 256 R, or 0 for an id that is not listed, and the largest excess of entitlement over
+/// supply in the windows that end at the base; the one of the whole transition counts from the start.
+fn start_in_numbers(timetable: &Timetable, id: usize) -> bool {
+    let Entry { period, bound, shortfall, .. } = timetable.entries[id];
+    let (weight, start) = (256i64.checked_div(period.into()).unwrap_or(0), timetable.starts[id]);
+    let transition = timetable.transition();
+    let excess = |from: usize| {
+        let own = transition[from..].iter().filter(|&&owner| usize::from(owner) == id).count();
+        weight * (transition.len() - from) as i64 - 256 * own as i64
+    };
+    let within = (1..=transition.len()).map(excess);
+    let reached = within.chain([i64::from(start) + excess(0)]).max();
+    let below = if period > 0 { start < 256 * u16::from(bound) } else { start == 0 };
+    below && reached == Some(shortfall.into())
+}
+
 /// Soundness once more, clause by clause in numbers instead of slots.
 pub(crate) fn sound_in_numbers(timetable: &Timetable) -> bool {
     let length = usize::from(timetable.length);
@@ -999,6 +1028,7 @@ pub(crate) fn sound_in_numbers(timetable: &Timetable) -> bool {
         && timetable.owners.iter().enumerate().all(owner)
         && timetable.entries.iter().all(entry)
         && shares.iter().enumerate().all(pairs)
+        && (0..IDS).all(|id| start_in_numbers(timetable, id))
 }
 
 /// Soundness by slots is soundness in numbers, on timetables reached and then edited.
@@ -1048,8 +1078,9 @@ fn any_bytes_and_any_timetable_are_answered() {
 /// One field of a timetable gets any value.
 fn hostile(random: &mut crate::random::Random, timetable: &mut Timetable) {
     let value = random.bits() >> random.below(64);
-    let entry = &mut timetable.entries[random.below(32) as usize];
-    match random.below(12) {
+    let id = random.below(32) as usize;
+    let entry = &mut timetable.entries[id];
+    match random.below(15) {
         0 => timetable.request_slot = value,
         1 => timetable.length = value as u8,
         2 => timetable.base = value,
@@ -1061,7 +1092,16 @@ fn hostile(random: &mut crate::random::Random, timetable: &mut Timetable) {
         8 => entry.shortfall = entry.shortfall.wrapping_add(1),
         9 => entry.bound = entry.bound.wrapping_sub(1),
         10 => entry.offset ^= 1 << (value % 8),
-        _ => *entry = Entry { period: 1 << (value % 9), offset: 0, bound: 8, shortfall: 0 },
+        11 => timetable.starts[id] = value as u16,
+        12 => timetable.starts[id] = timetable.starts[id].wrapping_add(1),
+        13 => {
+            timetable.starts[id] = timetable.starts[id].wrapping_add(1);
+            entry.shortfall = entry.shortfall.wrapping_add(1);
+        }
+        _ => {
+            *entry = Entry { period: 1 << (value % 9), offset: 0, bound: 8, shortfall: 0 };
+            timetable.starts[id] = 0;
+        }
     }
 }
 

@@ -1,5 +1,5 @@
 //! The timetable of one core with all its fields, whatever their values, and the test
-//! whether it is sound, made by looking at the slots of one cycle.
+//! whether it is sound, made by looking at the slots of the transition and of one cycle.
 
 use crate::slots;
 
@@ -34,7 +34,8 @@ impl Entry {
     }
 }
 
-/// One core's timetable: request slot, transition length and owners, base, and the entries.
+/// One core's timetable: request slot, transition length and owners, base, the entries, and the
+/// starts, each id's shortfall at the request slot.
 #[derive(Clone, Copy, Debug, PartialEq, Eq)]
 pub struct Timetable {
     pub request_slot: u64,
@@ -42,10 +43,11 @@ pub struct Timetable {
     pub owners: [u8; LONGEST_TRANSITION],
     pub base: u64,
     pub entries: [Entry; IDS],
+    pub starts: [u16; IDS],
 }
 
 impl Timetable {
-    /// The empty timetable has request slot 0, length 0 and nothing listed.
+    /// The empty timetable has request slot 0, length 0, nothing listed, and every shortfall 0.
     pub fn empty() -> Timetable {
         Timetable {
             request_slot: 0,
@@ -53,6 +55,7 @@ impl Timetable {
             owners: [0; LONGEST_TRANSITION],
             base: 0,
             entries: [Entry::default(); IDS],
+            starts: [0; IDS],
         }
     }
 
@@ -79,6 +82,8 @@ impl Timetable {
             && self.owners_sound()
             && self.entries.iter().all(entry_sound)
             && !slots::share_a_slot(&self.entries)
+            && self.starts_sound()
+            && self.walk_arrives()
     }
 
     /// Request slot and length are within their limits and the base is their sum.
@@ -93,6 +98,24 @@ impl Timetable {
         let used = usize::from(self.length);
         self.owners.iter().take(used).all(|&owner| self.lists(owner))
             && self.owners.iter().skip(used).all(|&owner| owner == 0)
+    }
+
+    /// A listed partition starts below 256 R, every other id at 0.
+    fn starts_sound(&self) -> bool {
+        self.listing().iter().zip(self.starts).all(|(share, start)| match share {
+            Some(share) => share.keeps_bound(i64::from(start)),
+            None => start == 0,
+        })
+    }
+
+    /// The transition's slots pass one by one, and lead from the starts to the shortfalls at the base.
+    fn walk_arrives(&self) -> bool {
+        let listing = self.listing();
+        let mut shortfalls = self.starts.map(i64::from);
+        for &owner in self.transition() {
+            slots::pass_slot(&listing, &mut shortfalls, owner);
+        }
+        shortfalls == self.entries.map(|entry| i64::from(entry.shortfall))
     }
 }
 
