@@ -50,6 +50,8 @@ mod raising;
 #[cfg(test)]
 mod reading_tests;
 #[cfg(test)]
+mod standing_tests;
+#[cfg(test)]
 mod tests;
 #[cfg(test)]
 mod windows;

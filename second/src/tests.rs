@@ -56,12 +56,12 @@ fn request_b(longest: u8) -> Vec<u8> {
 }
 
 /// The timetable after case A.
-fn after_a() -> Timetable {
+pub(crate) fn after_a() -> Timetable {
     accepted(&Timetable::empty(), &request_a(), 1)
 }
 
 /// The timetable after case B.
-fn after_b() -> Timetable {
+pub(crate) fn after_b() -> Timetable {
     accepted(&after_a(), &request_b(1), 2)
 }
 
@@ -592,7 +592,7 @@ fn the_placement_keeps_its_order() {
 }
 
 /// A timetable is sound, or it is refused with 1 everywhere and handed back as it is.
-fn soundness(timetable: &Timetable, sound: bool) {
+pub(crate) fn soundness(timetable: &Timetable, sound: bool) {
     assert_eq!(timetable.sound(), sound, "{timetable:?}");
     if !sound {
         refused(timetable, &record(100, 0, &[]), 1, 0, 0);
@@ -603,7 +603,7 @@ fn soundness(timetable: &Timetable, sound: bool) {
 }
 
 /// The timetable of slot 6 that lists some ids from 5 on: period, offset, R and shortfall of each.
-fn listing_from_5<const N: usize>(entries: [(u16, u8, u8, u16); N]) -> Timetable {
+pub(crate) fn listing_from_5<const N: usize>(entries: [(u16, u8, u8, u16); N]) -> Timetable {
     let mut id = 4;
     let entries = entries.map(|(period, offset, bound, shortfall)| {
         id += 1;

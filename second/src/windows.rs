@@ -11,6 +11,7 @@ use crate::records::{longest_field, read_request, share_field, slot_field, Ask, 
 use crate::slots::Shortfalls;
 use crate::timetable::{Listing, Share, Timetable, IDLE, IDS};
 use std::collections::BTreeSet;
+use std::ops::Range;
 
 /// The slots that an offset choice is walked through from the base on.
 const LOOKED_AT: u64 = 512;
@@ -25,16 +26,16 @@ struct Slot {
 
 /// A run of a controller from the empty timetable, recorded slot by slot up to some slot, and what
 /// the request accepted last asked for.
-struct Run {
+pub(crate) struct Run {
     slots: Vec<Slot>,
-    timetable: Timetable,
+    pub(crate) timetable: Timetable,
     since: [usize; IDS],
     asked: Listing,
 }
 
 impl Run {
     /// The run of an empty controller before its first slot.
-    fn empty() -> Run {
+    pub(crate) fn empty() -> Run {
         let timetable = Timetable::empty();
         Run { slots: Vec::new(), timetable, since: [0; IDS], asked: [None; IDS] }
     }
@@ -52,7 +53,7 @@ impl Run {
     }
 
     /// The slots before the given one are recorded, as the owner query names their owners.
-    fn record_to(&mut self, end: usize) {
+    pub(crate) fn record_to(&mut self, end: usize) {
         for slot in self.slots.len()..end {
             let (number, owner) = owner_query(&self.timetable, slot as u64);
             assert_eq!(number, 0);
@@ -61,7 +62,7 @@ impl Run {
     }
 
     /// A request is put to the controller; from an accepted one's slot on the run is another.
-    fn put(&mut self, record: &[u8]) -> Outcome {
+    pub(crate) fn put(&mut self, record: &[u8]) -> Outcome {
         let outcome = change(&self.timetable, record, &mut [0; AREA]);
         if outcome.number == 0 {
             let slot = outcome.timetable.request_slot as usize;
@@ -90,6 +91,22 @@ impl Run {
             largest = largest.max(excess);
         }
         largest
+    }
+
+    /// A listed id's shortfall at a slot, by all windows since it was newly listed.
+    pub(crate) fn shortfall(&self, id: usize, slot: usize) -> i64 {
+        self.excess(id, slot, self.since[id])
+    }
+
+    /// The recorded owner of a slot.
+    pub(crate) fn owner(&self, slot: usize) -> u8 {
+        self.slots[slot].owner
+    }
+
+    /// An id's supply over a window: the number of its own slots.
+    pub(crate) fn supply(&self, id: usize, window: Range<usize>) -> u64 {
+        let own = |slot: &&Slot| usize::from(slot.owner) == id;
+        self.slots[window].iter().filter(own).count() as u64
     }
 
     /// In every window within a present listing the supply falls short by less than the bound.
