@@ -2,16 +2,17 @@
 //! last value that is still sound is taken instead.
 
 use crate::built::{
-    leave_out_transition, led_to, lengthen, limit, listed_ids, match_base, settle, some_listed,
-    unlisted_ids,
+    alone, leave_out_transition, led_to, lengthen, limit, listed_ids, match_base, settle,
+    some_listed, unlisted_ids,
 };
 use crate::random::Random;
 use crate::timetable::{
     Entry, Timetable, CYCLE, IDLE, IDS, LARGEST_BOUND, LARGEST_EXPONENT, LAST_SLOT,
     LONGEST_TRANSITION,
 };
+use crate::walks;
 
-/// The clauses of soundness, docs/RULES.md 3.6 to 3.12.
+/// The clauses of soundness, docs/RULES.md 3.6 to 3.14, and the ways in which the walk misses.
 #[derive(Clone, Copy, Debug, PartialEq, Eq)]
 pub enum Clause {
     RequestSlot,
@@ -26,10 +27,15 @@ pub enum Clause {
     DifferentPeriods,
     Unlisted,
     UnusedOwner,
+    Start,
+    UnlistedStart,
+    OtherStart,
+    OtherShortfall,
+    OtherOwner,
 }
 
 /// Every clause with its name.
-pub const CLAUSES: [(Clause, &str); 12] = [
+pub const CLAUSES: [(Clause, &str); 17] = [
     (Clause::RequestSlot, "request slot"),
     (Clause::Length, "length"),
     (Clause::Base, "base"),
@@ -42,6 +48,11 @@ pub const CLAUSES: [(Clause, &str); 12] = [
     (Clause::DifferentPeriods, "shared slot, different periods"),
     (Clause::Unlisted, "unlisted entry"),
     (Clause::UnusedOwner, "unused owner"),
+    (Clause::Start, "start"),
+    (Clause::UnlistedStart, "start of an unlisted id"),
+    (Clause::OtherStart, "walk, another start"),
+    (Clause::OtherShortfall, "walk, another shortfall"),
+    (Clause::OtherOwner, "walk, another owner"),
 ];
 
 /// A sound timetable with a clause broken.
@@ -60,6 +71,11 @@ pub fn broken(random: &mut Random, clause: Clause, timetable: &Timetable) -> Tim
         Clause::DifferentPeriods => different_periods(random, &mut edited),
         Clause::Unlisted => unlisted(random, &mut edited),
         Clause::UnusedOwner => unused_owner(random, &mut edited),
+        Clause::Start => walks::start(random, &mut edited),
+        Clause::UnlistedStart => walks::unlisted_start(random, &mut edited),
+        Clause::OtherStart => walks::other_start(random, &mut edited),
+        Clause::OtherShortfall => walks::other_shortfall(random, &mut edited),
+        Clause::OtherOwner => walks::other_owner(random, &mut edited),
     }
     edited
 }
@@ -107,7 +123,8 @@ fn base(random: &mut Random, timetable: &mut Timetable) {
     };
 }
 
-/// An owner of the transition is an id that is not listed, 32, 255, or some other number above.
+/// An owner of the transition is an id that is not listed, 32, 255, or some other number above; the
+/// walk leads on without that slot where the bounds allow it.
 fn owner(random: &mut Random, timetable: &mut Timetable) {
     let listed = some_listed(random, timetable);
     if timetable.length == 0 {
@@ -125,7 +142,11 @@ fn owner(random: &mut Random, timetable: &mut Timetable) {
     let between = random.between(0, last);
     let at = random.pick(&[0, last, between]).unwrap_or(0);
     timetable.owners[at as usize] = owner;
+    let missing = *timetable;
     settle(timetable);
+    if timetable.length < missing.length {
+        *timetable = missing;
+    }
 }
 
 /// An owner after the transition is not zero.
@@ -280,16 +301,4 @@ fn unlisted(random: &mut Random, timetable: &mut Timetable) {
         1 => entry.bound = random.pick(&[1, far]).unwrap_or(1),
         _ => entry.shortfall = random.pick(&[1, u16::from(far), 256, u16::MAX]).unwrap_or(1),
     }
-}
-
-/// No other partition is listed, and the whole transition is the given one's.
-fn alone(timetable: &mut Timetable, id: usize) {
-    for (other, entry) in timetable.entries.iter_mut().enumerate() {
-        if other != id {
-            *entry = Entry::default();
-            timetable.starts[other] = 0;
-        }
-    }
-    let used = usize::from(timetable.length);
-    timetable.owners.iter_mut().take(used).for_each(|owner| *owner = id as u8);
 }

@@ -17,14 +17,32 @@ pub fn built(random: &mut Random) -> Timetable {
     let lengths = [0, 1, LONGEST_TRANSITION as u8, length];
     let length = random.pick(&lengths).filter(|_| !listed_ids(&timetable).is_empty());
     any_transition(random, &mut timetable, length.unwrap_or(0));
-    timetable.request_slot = match random.below(5) {
+    any_request_slot(random, &mut timetable);
+    timetable
+}
+
+/// A sound timetable of few partitions with a transition, mostly the longest.
+pub fn built_with_transition(random: &mut Random) -> Timetable {
+    let mut timetable = Timetable::empty();
+    let most = random.pick(&[4, 4, 4, 16]).unwrap_or(4);
+    place_some(random, &mut timetable, most);
+    some_listed(random, &mut timetable);
+    let longest = LONGEST_TRANSITION as u64;
+    let length = if random.chance(15, 16) { longest } else { random.between(1, longest) };
+    any_transition(random, &mut timetable, length as u8);
+    any_request_slot(random, &mut timetable);
+    timetable
+}
+
+/// The timetable is put to a request slot at 0, near 2^48, anywhere, or below 2,000.
+fn any_request_slot(random: &mut Random, timetable: &mut Timetable) {
+    timetable.request_slot = match random.below(10) {
         0 => 0,
         1 => LAST_SLOT - random.below(100),
-        2 => random.below(LAST_SLOT + 1),
+        2..=3 => random.below(LAST_SLOT + 1),
         _ => random.below(2000),
     };
-    match_base(&mut timetable);
-    timetable
+    match_base(timetable);
 }
 
 /// Some partitions, fewer than so many, are listed where their slots are free.
@@ -136,14 +154,15 @@ pub fn lengthen(random: &mut Random, timetable: &mut Timetable, length: u8) {
     }
     while timetable.length < length {
         let idle = random.pick(&listed_ids(timetable)).unwrap_or(0) as u8;
-        let next = cycle_owners(&timetable.entries)[0];
-        append(timetable, if next == IDLE { idle } else { next });
+        go_on(timetable, idle);
     }
     match_base(timetable);
 }
 
-/// One more transition slot, which was the first of the cycle, goes to an owner.
-fn append(timetable: &mut Timetable, owner: u8) {
+/// One more transition slot, the first of the cycle, is its owner's, and the given id's if it is idle.
+pub fn go_on(timetable: &mut Timetable, idle: u8) {
+    let first = cycle_owners(&timetable.entries)[0];
+    let owner = if first == IDLE { idle } else { first };
     let mut shortfalls = timetable.entries.map(|entry| i64::from(entry.shortfall));
     pass_slot(&timetable.listing(), &mut shortfalls, owner);
     for (entry, shortfall) in timetable.entries.iter_mut().zip(shortfalls) {
@@ -168,6 +187,19 @@ pub fn leave_out_transition(timetable: &mut Timetable) {
 /// The base is the request slot + the length.
 pub fn match_base(timetable: &mut Timetable) {
     timetable.base = timetable.request_slot.wrapping_add(u64::from(timetable.length));
+}
+
+/// No other partition is listed, and the whole transition is the given one's.
+pub fn alone(timetable: &mut Timetable, id: usize) {
+    for (other, entry) in timetable.entries.iter_mut().enumerate() {
+        if other != id {
+            *entry = Entry::default();
+            timetable.starts[other] = 0;
+        }
+    }
+    let used = usize::from(timetable.length);
+    timetable.owners.iter_mut().take(used).for_each(|owner| *owner = id as u8);
+    settle(timetable);
 }
 
 /// A listed id; if nothing is listed, one that is listed now.

@@ -149,7 +149,8 @@ fn areas() -> Vec<Vec<u8>> {
     probes
 }
 
-/// The figures that the cases name, as queries, and the queries' limits.
+/// The figures that the cases name, as queries, standing during B's change among them, and the
+/// queries' limits.
 fn queries() -> Vec<Vec<u8>> {
     let a = image_field(&image_of(&after(&[request_a()])));
     let b = image_field(&image_of(&after(&[request_a(), request_b(6, 1)])));
@@ -157,8 +158,10 @@ fn queries() -> Vec<Vec<u8>> {
     probes.extend((5..11).map(|slot| owner_content(&b, slot)));
     probes.extend([LAST_SLOT, LAST_SLOT + 1].map(|slot| owner_content(&b, slot)));
     probes.extend([0, 1, 2].map(|id| standing_content(&a, id, 6)));
-    probes.extend([0, 1, 2].map(|id| standing_content(&b, id, 7)));
-    probes.extend([6, 8, LAST_SLOT, LAST_SLOT + 1].map(|slot| standing_content(&b, 2, slot)));
+    for slot in 5..9 {
+        probes.extend([0, 1, 2].map(|id| standing_content(&b, id, slot)));
+    }
+    probes.extend([LAST_SLOT, LAST_SLOT + 1].map(|slot| standing_content(&b, 2, slot)));
     probes.extend([32, 255].map(|id| standing_content(&b, id, 7)));
     probes
 }

@@ -3,12 +3,14 @@
 use crate::archive::FieldTold;
 use crate::breaks::CLAUSES;
 use crate::change::{change, Outcome, AREA};
+use crate::clauses::broken_alone;
 use crate::generate::{Generator, Left};
 use crate::numbers::{ACCEPTED, LENGTHS_EXHAUSTED, SLOT_MISSED};
 use crate::probe::{put, read_probe, timetable_of, Probe, Reply};
-use crate::probes::{Made, Origin, Probes};
+use crate::probes::{Made, Origin};
 use crate::records::{read_request, with_longest};
 use crate::short_counts::ShortCounts;
+use crate::standing_counts::StandingCounts;
 use crate::timetable::{Timetable, LONGEST_TRANSITION};
 
 /// The numbers of answers, 0 to 11.
@@ -162,32 +164,35 @@ impl KindCounts {
     }
 }
 
-/// The kinds, numbers, refusals for want of a schedule, lengths, short fields, area sizes and
-/// timetables of a stream of probes.
+/// The kinds, numbers, refusals for want of a schedule, lengths, short fields, standings, area sizes
+/// and timetables of a stream of probes.
 #[derive(Default)]
 pub struct ProbeCounts {
     pub kinds: KindCounts,
     pub wants: Wants,
     pub lengths: [u64; LENGTHS.len()],
     pub short: ShortCounts,
+    pub standings: StandingCounts,
     pub areas: [u64; AREAS.len()],
     pub origins: Vec<OriginCount>,
 }
 
-/// How many probes had timetables of one origin, and how many of these were not sound.
+/// How many probes had timetables of one origin, how many of these were not sound, and how many broke
+/// the origin's clause alone.
 pub struct OriginCount {
     pub origin: Origin,
     pub probes: u64,
     pub unsound: u64,
+    pub alone: u64,
 }
 
 impl ProbeCounts {
     /// The model answers the stream, and each answer is counted.
-    pub fn of(probes: Probes) -> ProbeCounts {
+    pub fn of(probes: impl IntoIterator<Item = Made>) -> ProbeCounts {
         let origins = origins().into_iter();
         let mut counts = ProbeCounts {
             origins: origins
-                .map(|(origin, _)| OriginCount { origin, probes: 0, unsound: 0 })
+                .map(|(origin, _)| OriginCount { origin, probes: 0, unsound: 0, alone: 0 })
                 .collect(),
             ..ProbeCounts::default()
         };
@@ -203,6 +208,7 @@ impl ProbeCounts {
         let reply = put(&probe);
         self.kinds.count(&reply);
         self.count_change(&probe, &reply);
+        self.standings.count(made.origin, &probe, &reply);
         if let Some(image) = image_in(&probe) {
             self.count_origin(made.origin, image);
         }
@@ -230,34 +236,46 @@ impl ProbeCounts {
         self.short.count(&before, &Left::default(), request, &outcome);
     }
 
-    /// An image is counted by how it was made, and whether it is sound.
+    /// An image is counted by how it was made, whether it is sound, and what it breaks.
     fn count_origin(&mut self, origin: Origin, image: &[u8]) {
-        let sound = timetable_of(image).is_some_and(|timetable| timetable.sound());
+        let timetable = timetable_of(image);
+        let sound = timetable.is_some_and(|timetable| timetable.sound());
+        let alone = match (origin, timetable) {
+            (Origin::Broken(clause), Some(timetable)) => broken_alone(&timetable, clause),
+            _ => false,
+        };
         if let Some(count) = self.origins.iter_mut().find(|count| count.origin == origin) {
             count.probes += 1;
             count.unsound += u64::from(!sound);
+            count.alone += u64::from(alone);
         }
     }
 
-    /// The tables: numbers by kind, refusals for want of a schedule, lengths, short fields, area
-    /// sizes, and timetables by how they were made.
+    /// The tables: numbers by kind, refusals for want of a schedule, lengths, short fields, standings,
+    /// area sizes, and timetables by how they were made.
     pub fn tables(&self) -> String {
         let tables = [
             self.kinds.table(),
             self.wants.tables(),
             class_table("Transition length", &LENGTHS, &self.lengths),
             self.short.tables(false),
+            self.standings.tables(),
             class_table("Area", &AREAS, &self.areas),
             self.origin_table(),
         ];
         tables.join("\n")
     }
 
-    /// A row for each way to make a timetable, with the probes and those that were not sound.
+    /// A row for each way to make a timetable, with the probes, those that were not sound, and those
+    /// that broke one clause alone.
     fn origin_table(&self) -> String {
-        let mut rows = vec![row(&["Timetable", "Probes", "Not sound"]), rule(3)];
-        for (count, (_, name)) in self.origins.iter().zip(origins()) {
-            rows.push(row(&[name, count.probes.to_string(), count.unsound.to_string()]));
+        let mut rows = vec![row(&["Timetable", "Probes", "Not sound", "Alone"]), rule(4)];
+        for (count, (origin, name)) in self.origins.iter().zip(origins()) {
+            let alone = match origin {
+                Origin::Broken(_) => count.alone.to_string(),
+                _ => String::new(),
+            };
+            rows.push(row(&[name, count.probes.to_string(), count.unsound.to_string(), alone]));
         }
         rows.concat()
     }
@@ -269,6 +287,8 @@ fn origins() -> Vec<(Origin, String)> {
         (Origin::Case, "of the cases"),
         (Origin::Reached, "as a history reached it"),
         (Origin::Built, "any sound one"),
+        (Origin::SweptReached, "swept, as a history reached it"),
+        (Origin::SweptBuilt, "swept, any sound one"),
         (Origin::BytesChanged, "bytes changed"),
         (Origin::RandomImage, "random bytes"),
         (Origin::OtherLength, "image of another length"),

@@ -12,6 +12,7 @@ pub mod breaks;
 pub mod built;
 pub mod cases;
 pub mod change;
+pub mod clauses;
 pub mod counts;
 pub mod documents;
 pub mod figures;
@@ -24,6 +25,7 @@ pub mod queries;
 pub mod random;
 pub mod records;
 pub mod short_counts;
+pub mod standing_counts;
 pub mod timetable;
 
 mod archived;
@@ -35,6 +37,7 @@ mod run;
 mod slots;
 mod spoil;
 mod untouched;
+mod walks;
 mod worked;
 
 #[cfg(test)]

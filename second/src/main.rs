@@ -24,7 +24,7 @@ second cases                      the cases of docs/RULES.md 11 as request frame
 second generate SEED COUNT        random request frames to standard output
 second counts SEED COUNT          how often each answer comes in those frames
 second answers                    probe frames from standard input, a line for each probe
-second probes SEED COUNT          the cases and random probes to standard output
+second probes SEED COUNT          the cases, random probes, and transitions swept, to standard output
 second probe-counts SEED COUNT    how often each answer comes in those probes
 second archives SEED COUNT        cases and random probes that read answers and write requests
 second archive-counts SEED COUNT  how often each answer comes in those probes

@@ -1,9 +1,10 @@
 //! The probe by itself: images, packing, areas and contents cut off; that each clause of soundness
 //! is broken on its own; and what the streams of probes reach.
 
-use crate::breaks::{broken, Clause, CLAUSES};
+use crate::breaks::{broken, CLAUSES};
 use crate::built::built;
 use crate::change::{change, AREA};
+use crate::clauses::{broken_alone, broken_clauses};
 use crate::counts::ProbeCounts;
 use crate::frames::{frame, print_probes, LONGEST_FRAME};
 use crate::generate::Generator;
@@ -11,7 +12,7 @@ use crate::probe::{
     change_content, empty_content, image_field, image_of, owner_content, pack, packed_field,
     probe_line, read_probe, standing_content, timetable_of, Probe, IMAGE,
 };
-use crate::probes::Probes;
+use crate::probes::{Made, Origin, Probes};
 use crate::random::Random;
 use crate::tests::sound_in_numbers;
 use crate::timetable::{Entry, Timetable, LAST_SLOT};
@@ -209,36 +210,6 @@ fn any_content_is_answered() {
     }
 }
 
-/// Which clauses hold, each looked at by itself: those of entries where an entry is in range.
-fn clauses_kept(timetable: &Timetable) -> [(Clause, bool); 9] {
-    let length = usize::from(timetable.length);
-    let listed: Vec<&Entry> = timetable.entries.iter().filter(|entry| entry.listed()).collect();
-    let owners = &timetable.owners;
-    let sum = timetable.request_slot.checked_add(length as u64);
-    let all = |holds: &dyn Fn(&Entry) -> bool| listed.iter().all(|entry| holds(entry));
-    let reached = |entry: &Entry| {
-        u32::from(entry.shortfall) + u32::from(entry.offset) * (256 / u32::from(entry.period))
-    };
-    let zero = |entry: &Entry| (entry.offset, entry.bound, entry.shortfall) == (0, 0, 0);
-    let unlisted_zero = timetable.entries.iter().all(|entry| entry.listed() || zero(entry));
-    [
-        (Clause::RequestSlot, timetable.request_slot < 1 << 48),
-        (Clause::Length, length <= 64),
-        (Clause::Base, sum == Some(timetable.base)),
-        (Clause::Owner, owners.iter().take(length).all(|&owner| timetable.lists(owner))),
-        (Clause::Bound, all(&|entry| (1..=8).contains(&entry.bound))),
-        (Clause::Offset, all(&|entry| u16::from(entry.offset) < entry.period)),
-        (Clause::Shortfall, all(&|entry| reached(entry) < 256 * u32::from(entry.bound))),
-        (Clause::Unlisted, unlisted_zero),
-        (Clause::UnusedOwner, owners.iter().skip(length).all(|&owner| owner == 0)),
-    ]
-}
-
-/// The timetable breaks the clause and keeps every other one that can be looked at by itself.
-fn broken_alone(timetable: &Timetable, clause: Clause) -> bool {
-    !timetable.sound() && clauses_kept(timetable).iter().all(|&(of, kept)| kept != (of == clause))
-}
-
 /// Every clause is broken on its own, many times, from timetables that histories reach.
 #[test]
 fn each_clause_is_broken_on_its_own() {
@@ -251,13 +222,17 @@ fn each_clause_is_broken_on_its_own() {
         for (at, (clause, _)) in CLAUSES.iter().enumerate() {
             let edited = broken(&mut random, *clause, &timetable);
             assert_eq!(edited.sound(), sound_in_numbers(&edited));
+            assert_eq!(edited.sound(), broken_clauses(&edited).is_empty());
             sound[at] += u32::from(edited.sound());
             alone[at] += u32::from(broken_alone(&edited, *clause));
         }
     }
     assert!(alone.iter().all(|&times| times > 400), "{alone:?}");
     assert!(sound.iter().all(|&times| times < 750), "{sound:?}");
-    assert!(sound[7] > 300, "a shortfall of one below is sound: {sound:?}");
+    assert!(
+        [7, 12, 14].iter().all(|&at| sound[at] > 250),
+        "one below is sound, and a start that leads there: {sound:?}"
+    );
 }
 
 /// Timetables that are built are sound, some of them on a full core and with long transitions.
@@ -281,7 +256,9 @@ fn a_seed_always_gives_the_same_probes() {
     let stream = |seed| Probes::new(seed, 300).map(|made| made.content).collect::<Vec<_>>();
     assert_eq!(stream(3), stream(3));
     assert_ne!(stream(3), stream(4));
-    assert_eq!(stream(3).len(), 300 + crate::cases::probes().len());
+    let swept = |made: &Made| [Origin::SweptReached, Origin::SweptBuilt].contains(&made.origin);
+    let others = Probes::new(3, 300).filter(|made| !swept(made)).count();
+    assert_eq!(others, 300 + crate::cases::probes().len());
     assert!(stream(3).iter().all(|content| content.len() <= LONGEST_FRAME));
 }
 
@@ -300,13 +277,13 @@ fn the_probes_reach_every_answer() {
     assert!(counts.wants.least() >= 10, "{:?}", counts.wants);
     assert!(counts.lengths.iter().all(|&count| count > 30), "{:?}", counts.lengths);
     assert!(counts.areas.iter().all(|&count| count > 60), "{:?}", counts.areas);
-    assert!(counts.origins.iter().skip(6).all(|count| count.unsound > 20));
+    assert!(counts.origins.iter().skip(8).all(|count| count.unsound > 20));
 }
 
-/// About a fifth of the change probes have a timetable that is not sound.
+/// Between a fifth and a third of the change probes have a timetable that is not sound.
 #[test]
 fn most_changes_are_of_sound_timetables() {
     let counts = ProbeCounts::of(Probes::new(2, 6000)).kinds.numbers[0];
     let all: u64 = counts.iter().sum();
-    assert!((15..25).contains(&(counts[1] * 100 / all)), "{} of {all}", counts[1]);
+    assert!((20..33).contains(&(counts[1] * 100 / all)), "{} of {all}", counts[1]);
 }

@@ -1,8 +1,9 @@
 //! Random streams of probes: timetables that histories reach, with one clause of soundness broken
-//! or otherwise altered, under requests that aim, damaged ones, any areas and any queries.
+//! or otherwise altered, under requests that aim, damaged ones, any areas and any queries; and sweeps
+//! of standing queries over whole transitions.
 
 use crate::breaks::{broken, Clause, CLAUSES};
-use crate::built::{built, listed_ids};
+use crate::built::{built, built_with_transition, listed_ids};
 use crate::cases;
 use crate::frames::LONGEST_FRAME;
 use crate::generate::Generator;
@@ -19,6 +20,8 @@ pub enum Origin {
     Case,
     Reached,
     Built,
+    SweptReached,
+    SweptBuilt,
     Broken(Clause),
     BytesChanged,
     RandomImage,
@@ -38,20 +41,50 @@ struct Subject {
     request: Vec<u8>,
 }
 
-/// A stream of probes: the cases of docs/RULES.md 11, then random ones along histories.
+/// A stream of probes: the cases of docs/RULES.md 11, then random ones along histories, with sweeps
+/// over whole transitions between them.
 pub struct Probes {
     random: Random,
     cases: std::vec::IntoIter<Vec<u8>>,
     history: Generator,
+    sweep: std::vec::IntoIter<Made>,
     left: u64,
 }
 
 impl Probes {
-    /// The stream of a seed: the cases, and so many random probes after them.
+    /// The stream of a seed: the cases, so many random probes after them, and the sweeps besides.
     pub fn new(seed: u64, count: u64) -> Probes {
         let mut random = Random::new(seed);
         let history = fresh_history(&mut random);
-        Probes { random, cases: cases::probes().into_iter(), history, left: count }
+        let (cases, sweep) = (cases::probes().into_iter(), Vec::new().into_iter());
+        Probes { random, cases, history, sweep, left: count }
+    }
+
+    /// Now and then the transition of the history's timetable is swept, or that of any sound one.
+    fn next_sweep(&mut self) -> Vec<Made> {
+        let reached = self.history.timetable();
+        if reached.length > 0 && self.random.chance(1, 14) {
+            return self.swept(Origin::SweptReached, &reached);
+        }
+        if self.random.chance(1, 80) {
+            let built = built_with_transition(&mut self.random);
+            return self.swept(Origin::SweptBuilt, &built);
+        }
+        Vec::new()
+    }
+
+    /// A standing query at each slot from the one before the request slot to the second behind the
+    /// base, all of one listed partition or each of any.
+    fn swept(&mut self, origin: Origin, timetable: &Timetable) -> Vec<Made> {
+        let field = image_field(&image_of(timetable));
+        let ids = listed_ids(timetable);
+        let one = self.random.pick(&ids).filter(|_| self.random.chance(1, 2));
+        let first = timetable.request_slot.saturating_sub(1);
+        let probe = |slot| {
+            let id = one.or(self.random.pick(&ids)).unwrap_or(0);
+            Made { content: standing_content(&field, id as u8, slot), origin }
+        };
+        (first..=timetable.base.saturating_add(2)).map(probe).collect()
     }
 
     /// One random probe; now and then its content is cut off or goes on.
@@ -76,13 +109,13 @@ impl Probes {
     fn subject(&mut self) -> Subject {
         let (timetable, request) = self.reached();
         match self.random.below(100) {
-            0..=66 => Subject { image: image_of(&timetable), origin: Origin::Reached, request },
-            67..=76 => {
+            0..=57 => Subject { image: image_of(&timetable), origin: Origin::Reached, request },
+            58..=66 => {
                 let built = built(&mut self.random);
                 self.altered(Origin::Built, image_of(&built), request)
             }
-            77..=93 => {
-                let (clause, _) = self.random.pick(&CLAUSES).unwrap_or(CLAUSES[0]);
+            67..=93 => {
+                let clause = self.clause();
                 let broken = broken(&mut self.random, clause, &timetable);
                 self.altered(Origin::Broken(clause), image_of(&broken), request)
             }
@@ -99,6 +132,14 @@ impl Probes {
                 self.altered(Origin::OtherLength, image, request)
             }
         }
+    }
+
+    /// A clause of soundness; one in four is of the starts and of the walk in any case.
+    fn clause(&mut self) -> Clause {
+        let of_starts =
+            CLAUSES.iter().position(|&(clause, _)| clause == Clause::Start).unwrap_or(0);
+        let first = if self.random.chance(1, 4) { of_starts } else { 0 };
+        self.random.pick(&CLAUSES[first..]).unwrap_or(CLAUSES[0]).0
     }
 
     /// A timetable of the history and the request that follows there; a new history after the last.
@@ -146,20 +187,21 @@ impl Probes {
         bytes.collect()
     }
 
-    /// An image that is too short or too long.
+    /// An image that is too short or too long; one without its starts is among them.
     fn other_length(&mut self, timetable: &Timetable) -> Vec<u8> {
         let mut image = image_of(timetable);
         let any = self.random.below(600);
-        let length = match self.random.below(12) {
+        let length = match self.random.below(14) {
             0..=1 => 0,
             2..=3 => 1,
             4..=6 => IMAGE as u64 - 1,
             7..=9 => IMAGE as u64 + 1,
-            10 => any,
+            10..=11 => (IMAGE - 2 * IDS) as u64,
+            12 => any,
             _ => self.random.pick(&[65535, 65534, 512, 17]).unwrap_or(any),
         };
         image.resize(length as usize, 0);
-        if let Some(last) = image.last_mut().filter(|_| self.random.chance(1, 2)) {
+        if let Some(last) = image.last_mut().filter(|_| self.random.chance(1, 3)) {
             *last = self.random.byte();
         }
         image
@@ -324,7 +366,11 @@ impl Iterator for Probes {
         if let Some(content) = self.cases.next() {
             return Some(Made { content, origin: Origin::Case });
         }
+        if let Some(query) = self.sweep.next() {
+            return Some(query);
+        }
         self.left = self.left.checked_sub(1)?;
+        self.sweep = self.next_sweep().into_iter();
         Some(self.make())
     }
 }

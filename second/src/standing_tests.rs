@@ -6,11 +6,15 @@ use crate::breaks::{broken, Clause};
 use crate::built::{built, led_to, listed_ids, match_base, unlisted_ids};
 use crate::cases::{self, record};
 use crate::change::{change, AREA};
+use crate::clauses::broken_alone;
+use crate::counts::ProbeCounts;
 use crate::generate::Generator;
-use crate::probe::{image_of, timetable_of, IMAGE};
+use crate::probe::{image_of, read_probe, timetable_of, Probe, IMAGE};
+use crate::probes::{Made, Origin, Probes};
 use crate::queries::{owner_query, standing_query};
 use crate::random::Random;
 use crate::records::read_request;
+use crate::standing_counts::Answered;
 use crate::tests::{after_a, after_b, listing_from_5, sound_in_numbers, soundness};
 use crate::timetable::{Entry, Timetable, IDS, LAST_SLOT};
 use crate::windows::Run;
@@ -439,4 +443,49 @@ fn several_changes_in_one_slot() {
     assert_eq!(standing_query(&stays, 1, 7), (0, 0, 0));
     let broken = broken(&mut Random::new(1), Clause::Base, &stays);
     assert_eq!(standing_query(&broken, 1, 7), (1, 0, 0));
+}
+
+/// A probe's timetable, if its image is one.
+fn timetable_in(made: &Made) -> Option<Timetable> {
+    match read_probe(&made.content) {
+        Probe::Change { image, .. } | Probe::Owner { image, .. } => timetable_of(&image),
+        Probe::Standing { image, .. } => timetable_of(&image),
+        _ => None,
+    }
+}
+
+/// A listed id starts at exactly 256 R, and nothing else is wrong.
+fn starts_at_256_r(timetable: &Timetable) -> bool {
+    let exact = |id: usize| timetable.starts[id] == 256 * u16::from(timetable.entries[id].bound);
+    let ids = listed_ids(timetable);
+    broken_alone(timetable, Clause::Start) && ids.into_iter().any(exact)
+}
+
+/// The stored stream of probes breaks each clause of the starts and of the walk alone, and sweeps
+/// whole transitions, so often that the wrong programs of docs/RULES.md 12.21 to 12.23 show.
+#[test]
+fn the_stored_stream_has_starts_and_sweeps() {
+    let stream: Vec<Made> = Probes::new(1, 20_000).collect();
+    let exact = stream.iter().filter_map(timetable_in).filter(starts_at_256_r).count();
+    let counts = ProbeCounts::of(stream);
+    let alone = |clause| {
+        let mut origins = counts.origins.iter();
+        origins.find(|count| count.origin == Origin::Broken(clause)).map_or(0, |count| count.alone)
+    };
+    let clauses = [
+        Clause::Start,
+        Clause::UnlistedStart,
+        Clause::OtherStart,
+        Clause::OtherShortfall,
+        Clause::OtherOwner,
+    ];
+    assert!(clauses.iter().all(|&clause| alone(clause) >= 200), "{:?}", clauses.map(alone));
+    assert!(exact >= 100, "{exact}");
+    let standings = counts.standings;
+    assert!(standings.least() >= 200 && standings.too_early >= 500, "{standings:?}");
+    assert!(standings.whole.iter().all(|&whole| whole >= 200), "{:?}", standings.whole);
+    let all = |figure: fn(&Answered) -> u64| standings.answered.iter().map(figure).sum::<u64>();
+    assert!(all(|answered| answered.other_slices) >= 10_000, "{standings:?}");
+    assert!(all(|answered| answered.other_shortfall) >= 5000, "{standings:?}");
+    assert!(standings.answered[6..].iter().all(|later| later.other_slices >= 300));
 }

@@ -896,16 +896,22 @@ fn area_lines() -> Vec<String> {
     ]
 }
 
-/// The probe's lines for the queries: owners after A and B, then the standings that B and D name.
+/// The probe's lines for the queries: owners after A and B, then the standings before and during B's
+/// change, and the limits.
 fn query_lines() -> Vec<String> {
     let owners = ["0 0 255", "0 0 255", "0 0 1", "0 0 0"];
     let after_b = ["6 0 0", "0 0 1", "0 0 0", "0 0 2", "0 0 1", "0 0 2", "0 0 0", "4 0 0"];
     let standings = [
-        ["0 0 128 1", "0 0 192 1", "10 0 0 0", "0 0 192 0", "0 0 0 1", "0 0 128 0"],
-        ["0 0 0 0", "0 0 256 0", "0 0 128 140737488355324", "4 0 0 0", "4 0 0 0", "4 0 0 0"],
+        ["0 0 128 1", "0 0 192 1", "10 0 0 0"],
+        ["6 0 0 0", "6 0 0 0", "6 0 0 0"],
+        ["0 0 128 0", "0 0 192 0", "0 0 0 0"],
+        ["0 0 192 0", "0 0 0 1", "0 0 128 0"],
+        ["0 0 0 1", "0 0 64 1", "0 0 256 0"],
     ];
+    let limits = ["0 0 128 140737488355324", "4 0 0 0", "4 0 0 0", "4 0 0 0"];
     let owners = owners.iter().chain(&after_b).map(|figures| format!("owner {figures}"));
-    let standings = standings.iter().flatten().map(|figures| format!("standing {figures}"));
+    let standings = standings.iter().flatten().chain(&limits);
+    let standings = standings.map(|figures| format!("standing {figures}"));
     owners.chain(standings).collect()
 }
 
