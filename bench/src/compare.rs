@@ -1,6 +1,6 @@
 //! All answers of the library and the port held against each other, before anything is timed.
 
-use port::{AREA, IMAGE, LAST_SLOT, LONGEST, SCHEDULE};
+use port::{AREA, IDS, IMAGE, LAST_SLOT, LONGEST, SCHEDULE};
 
 use crate::archive::{Archive, Figures, REQUEST};
 use crate::inputs::{empty_image, Input, Query};
@@ -70,7 +70,9 @@ pub fn damaged(seed: u64, inputs: &[Input]) -> Agreed {
             let at = random.below(IMAGE as u64) as usize;
             image[at] ^= 1 << random.below(8);
         }
-        image.resize(random.pick(&[IMAGE, IMAGE, IMAGE, 0, IMAGE - 1, IMAGE + 1]), 0);
+        let others = [0, IMAGE - 1, IMAGE + 1, IMAGE - 2 * IDS];
+        let other = random.pick(&others);
+        image.resize(random.pick(&[IMAGE, IMAGE, IMAGE, other]), 0);
         same_change(&image, &input.record, AREA)?;
         same_queries(&image, random.below(34) as u8, random.below(1 << 12))?;
     }
@@ -100,13 +102,13 @@ pub fn queries(queries: &[Query]) -> Agreed {
 
 /// The empty image by both, also where the length is wrong.
 pub fn empty() -> Agreed {
-    for size in [0, IMAGE - 1, IMAGE, IMAGE + 1] {
+    for size in [0, IMAGE - 2 * IDS, IMAGE - 1, IMAGE, IMAGE + 1] {
         let (mut a, mut b) = (vec![FILL; size], vec![FILL; size]);
         if library::empty(&mut a) != port::empty(&mut b) || a != b {
             return Err(format!("empty differs at {size} bytes"));
         }
     }
-    Ok(4)
+    Ok(5)
 }
 
 /// The requests of a stream of frames, one after the other from the empty controller.

@@ -58,6 +58,27 @@ pub fn length(image: &[u8; IMAGE]) -> u8 {
     image[8]
 }
 
+/// The place of a transition slot's owner in an image.
+pub fn owner_at(slot: usize) -> usize {
+    9 + slot
+}
+
+/// The place of an id's shortfall at the base.
+pub fn shortfall_at(id: u8) -> usize {
+    85 + 6 * usize::from(id)
+}
+
+/// The place of an id's shortfall at the request slot.
+pub fn start_at(id: u8) -> usize {
+    273 + 2 * usize::from(id)
+}
+
+/// Adds to the two-byte number at a place of an image, around 2^16.
+pub fn add(image: &mut [u8; IMAGE], at: usize, more: u16) {
+    let number = u16::from_be_bytes([image[at], image[at + 1]]).wrapping_add(more);
+    image[at..at + 2].copy_from_slice(&number.to_be_bytes());
+}
+
 /// The listed ids of an image.
 pub fn listed_ids(image: &[u8; IMAGE]) -> Vec<u8> {
     let listed = |id: &u8| image[81 + 6 * usize::from(*id)..][..2] != [0, 0];

@@ -125,6 +125,10 @@ fn compare_calls(
     }
     let images = queries::timetables(&inputs.source, 1, IDS);
     calls += compare::queries(&queries::odd_queries(seed, &images, ODD))?;
+    for images in [images, queries::timetables(&inputs.found, IDS, IDS)] {
+        calls += compare::queries(&queries::sweeps(&images))?;
+        calls += compare::queries(&queries::other_walks(seed, &images))?;
+    }
     let frames = std::fs::read(&arguments.frames).map_err(|error| error.to_string())?;
     calls += compare::stream(&frames)?;
     println!(

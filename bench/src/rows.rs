@@ -8,7 +8,7 @@ use crate::archive::Archive;
 use crate::desk::{self, Desk};
 use crate::inputs::{Input, Query};
 use crate::program;
-use crate::queries::{queries, timetables, Where};
+use crate::queries::{met_without_transition, queries, timetables, Where};
 use crate::table::{Row, Section};
 use crate::timing::{self, Effort, Times};
 
@@ -32,10 +32,9 @@ pub struct Inputs {
     pub found: Vec<Input>,
 }
 
-/// The queries of a row, and where their slots lie.
+/// The queries of a row.
 pub struct Asked {
     name: String,
-    place: Where,
     pub queries: Vec<Query>,
 }
 
@@ -79,28 +78,35 @@ fn passes(name: &str, inputs: &[Input]) -> Row {
     Row { name: name.to_string(), counted: "passes", times }
 }
 
-/// The queries of each row: timetables with a transition, of 32 and of about 12 partitions.
+/// The queries of each row: timetables of 32 partitions after a transition of 64 slots and without
+/// one, so that the cost of walking it shows, and of about 12 after a transition.
 pub fn asked(seed: u64, inputs: &Inputs) -> Vec<Asked> {
     let large = timetables(&inputs.found, IDS, IDS);
+    let settled = met_without_transition(&inputs.found, IDS);
     let small = timetables(&inputs.source, 11, 13);
+    let everywhere = [Where::Transition, Where::Near, Where::Far];
     let mut rows = Vec::new();
-    for (size, images) in [("32", &large), ("11 to 13", &small)] {
-        for place in [Where::Transition, Where::Near, Where::Far] {
-            let name = format!("{size} partitions, slots {}", place.name());
-            rows.push(Asked { name, place, queries: queries(seed, images, place, QUERIES) });
+    for (what, images, places) in [
+        ("32 partitions, 64 transition slots", &large, &everywhere[..]),
+        ("32 partitions, no transition", &settled, &everywhere[1..]),
+        ("11 to 13 partitions", &small, &everywhere[..]),
+    ] {
+        for &place in places {
+            let name = format!("{what}, slots {}", place.name());
+            rows.push(Asked { name, queries: queries(seed, images, place, QUERIES) });
         }
     }
     rows
 }
 
-/// The queries. A standing query is refused in the transition and has no row there.
+/// The queries.
 pub fn query_section(asked: &[Asked]) -> Section {
     let mut rows = Vec::new();
-    for Asked { name, queries, .. } in asked {
+    for Asked { name, queries } in asked {
         let times = timing::each(queries, QUERY_EFFORT, desk::library_owner, desk::port_owner);
         rows.push(Row { name: format!("owner, {name}"), counted: "inputs", times });
     }
-    for Asked { name, queries, .. } in asked.iter().filter(|row| row.place != Where::Transition) {
+    for Asked { name, queries } in asked {
         let times =
             timing::each(queries, QUERY_EFFORT, desk::library_standing, desk::port_standing);
         rows.push(Row { name: format!("standing, {name}"), counted: "inputs", times });

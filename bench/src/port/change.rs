@@ -79,13 +79,13 @@ fn entering<'a>(
         if weights > WHOLE {
             return Err(Refusal::at(OVERFULL, id));
         }
-        let shortfall = if old.is_listed() { old.shortfall_after(elapsed) } else { 0 };
+        let start = if old.is_listed() { old.shortfall_after(elapsed) } else { 0 };
         let bound = if ask.bound == 0 { old.bound_before() } else { ask.bound };
-        if shortfall >= WHOLE * u16::from(bound) {
+        if start >= WHOLE * u16::from(bound) {
             behind = behind.or(Some(id));
         }
-        let period = ask.period;
-        room[count] = Listed { id: id as u8, bound, offset: 0, period, weight, shortfall };
+        let (id, period) = (id as u8, ask.period);
+        room[count] = Listed { id, bound, offset: 0, period, weight, start, shortfall: start };
         count += 1;
     }
     match behind {
@@ -101,7 +101,9 @@ fn accept(timetable: &mut Timetable, slot: u64, length: u8, listed: &[Listed], f
     timetable.owners = found.owners;
     timetable.base = slot + u64::from(length);
     timetable.entries = [Entry::default(); IDS];
+    timetable.starts = [0; IDS];
     for partition in listed {
+        timetable.starts[usize::from(partition.id)] = partition.start;
         timetable.entries[usize::from(partition.id)] = Entry {
             period: partition.period,
             offset: partition.offset,

@@ -48,7 +48,7 @@ pub fn owner(timetable: &Timetable, slot: u64) -> OwnerAnswer {
     OwnerAnswer { number: ACCEPTED, place: 0, owner: timetable.owner_at(slot) }
 }
 
-/// The shortfall of an id at a slot's start, and its slices from the base up to there.
+/// The shortfall of an id at a slot's start, and its slices from the request slot up to there.
 pub fn standing(timetable: &Timetable, id: u8, slot: u64) -> StandingAnswer {
     if !timetable.is_sound() {
         return StandingAnswer::refused(NOT_SOUND);
@@ -56,18 +56,12 @@ pub fn standing(timetable: &Timetable, id: u8, slot: u64) -> StandingAnswer {
     if usize::from(id) >= IDS || slot > LAST_SLOT {
         return StandingAnswer::refused(OUT_OF_RANGE);
     }
-    if slot < timetable.base {
+    if slot < timetable.request {
         return StandingAnswer::refused(TOO_EARLY);
     }
     if !timetable.lists(id) {
         return StandingAnswer::refused(NOT_LISTED);
     }
-    let entry = &timetable.entries[usize::from(id)];
-    let elapsed = slot - timetable.base;
-    StandingAnswer {
-        number: ACCEPTED,
-        place: 0,
-        shortfall: entry.shortfall_after(elapsed),
-        slices: entry.slices_after(elapsed),
-    }
+    let (shortfall, slices) = timetable.standing_at(id, slot);
+    StandingAnswer { number: ACCEPTED, place: 0, shortfall, slices }
 }

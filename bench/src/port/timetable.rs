@@ -20,7 +20,8 @@ pub const LAST_SLOT: u64 = (1 << 48) - 1;
 /// The owner query's answer for an idle slot.
 pub const IDLE: u8 = 255;
 
-/// The request slot, the transition's length and owners, the base, and an entry for each id.
+/// The request slot, the transition's length and owners, the base, and for each id an entry and the
+/// shortfall at the request slot.
 #[derive(Clone, Copy, Debug, PartialEq, Eq)]
 pub struct Timetable {
     pub request: u64,
@@ -28,10 +29,11 @@ pub struct Timetable {
     pub owners: [u8; LONGEST],
     pub base: u64,
     pub entries: [Entry; IDS],
+    pub starts: [u16; IDS],
 }
 
 impl Timetable {
-    /// Request slot 0, length 0 and nothing listed.
+    /// Request slot 0, length 0, nothing listed and every shortfall 0.
     pub fn empty() -> Timetable {
         Timetable {
             request: 0,
@@ -39,6 +41,7 @@ impl Timetable {
             owners: [0; LONGEST],
             base: 0,
             entries: [Entry::default(); IDS],
+            starts: [0; IDS],
         }
     }
 
@@ -51,12 +54,66 @@ impl Timetable {
             && self.owners[..length].iter().all(|&owner| self.lists(owner))
             && self.owners[length..].iter().all(|&owner| owner == 0)
             && self.entries.iter().all(Entry::is_well_formed)
+            && self.starts_keep_bound()
+            && self.walk_arrives()
             && self.shares_no_slot()
     }
 
     /// Whether an id is listed.
     pub fn lists(&self, id: u8) -> bool {
         self.entries.get(usize::from(id)).is_some_and(Entry::is_listed)
+    }
+
+    /// Whether each start is below 256 R, or 0 where the id is not listed and its R is 0.
+    fn starts_keep_bound(&self) -> bool {
+        let mut starts = self.entries.iter().zip(self.starts);
+        starts.all(|(entry, start)| start < WHOLE * u16::from(entry.bound) || start == 0)
+    }
+
+    /// Whether the transition leads from the starts to the shortfalls at the base. For each id stands
+    /// the shortfall that it would have at the base without further own slots; an own slot takes 256
+    /// off, down to what the slots after it add. Entries, starts and owners are in range.
+    fn walk_arrives(&self) -> bool {
+        let owners = &self.owners[..usize::from(self.length)];
+        let weights = self.entries.map(|entry| if entry.is_listed() { entry.weight() } else { 0 });
+        let mut reached = self.starts;
+        for (shortfall, weight) in reached.iter_mut().zip(weights) {
+            *shortfall += u16::from(self.length) * weight;
+        }
+        let mut left = u16::from(self.length);
+        for &owner in owners {
+            left -= 1;
+            let id = usize::from(owner);
+            reached[id] = reached[id].saturating_sub(WHOLE).max(left * weights[id]);
+        }
+        reached.iter().zip(&self.entries).all(|(reached, entry)| *reached == entry.shortfall)
+    }
+
+    /// A listed id's shortfall at a slot from the request slot on, and its slices since that slot.
+    pub fn standing_at(&self, id: u8, slot: u64) -> (u16, u64) {
+        let entry = &self.entries[usize::from(id)];
+        if slot < self.base {
+            return self.in_transition(id, (slot - self.request) as usize);
+        }
+        let owners = &self.owners[..usize::from(self.length)];
+        let before = owners.iter().filter(|&&owner| owner == id).count() as u64;
+        let elapsed = slot - self.base;
+        (entry.shortfall_after(elapsed), before + entry.slices_after(elapsed))
+    }
+
+    /// A listed id's shortfall and slices after so many transition slots.
+    fn in_transition(&self, id: u8, passed: usize) -> (u16, u64) {
+        let weight = self.entries[usize::from(id)].weight();
+        let mut shortfall = self.starts[usize::from(id)];
+        let mut slices = 0;
+        for &owner in &self.owners[..passed] {
+            shortfall += weight;
+            if owner == id {
+                shortfall = shortfall.saturating_sub(WHOLE);
+                slices += 1;
+            }
+        }
+        (shortfall, slices)
     }
 
     /// Whether no two partitions share a cyclic slot; the entries are in range.
