@@ -7,18 +7,20 @@
  *     8             transition length, 0 to TARNFLAW_LONGEST
  *     9..72         owners, one byte for each transition slot; unused ones 0
  *     73..80        base: request slot + length
- *     81 + 6 * id   period, 2 bytes; 0 where the id is not listed, and then the three below are 0 too
+ *     81 + 6 * id   period, 2 bytes; 0 where the id is not listed, and then the four below are 0 too
  *     83 + 6 * id   offset
  *     84 + 6 * id   bound R
  *     85 + 6 * id   shortfall at the base, 2 bytes, in 256ths of a slot
+ *     273 + 2 * id  shortfall at the request slot, 2 bytes, in 256ths of a slot
  *
  * Start with tarnflaw_empty, and hand to each later call the image that the last accepted change left. It may be copied, stored and sent:
  * nothing else is kept. The empty timetable's image is all zero bytes, so memory that was cleared to 0 counts as an empty timetable.
  *
  * Each function returns a number, TARNFLAW_ACCEPTED or the refusal (docs/RULES.md 7.1). An image of another size than TARNFLAW_IMAGE is refused by
- * TARNFLAW_NOT_SOUND, and so are bytes that are no sound timetable (docs/RULES.md 3.5); only tarnflaw_empty takes any TARNFLAW_IMAGE bytes. The last
- * three functions have no image: see "Archived answers, and requests from figures". On a refusal no byte of the image or of the area changes. What is
- * told through the other pointers is always written.
+ * TARNFLAW_NOT_SOUND, and so are bytes that are no sound timetable (docs/RULES.md 3.5); only tarnflaw_empty takes any TARNFLAW_IMAGE bytes. Of the two
+ * shortfalls sound says, for each listed id: both are below 256 R, and walking the transition leads from the one at the request slot to the one at the
+ * base (docs/RULES.md 3.10, 3.13 and 3.14). Where the length is 0 the two are the same. The last three functions have no image: see "Archived answers,
+ * and requests from figures". On a refusal no byte of the image or of the area changes. What is told through the other pointers is always written.
  *
  * Any bytes may be handed in, and give one result. But sound means possible, not true: the bounds are promised for images that came from calls,
  * not for bytes that were changed elsewhere. See "Stored images".
@@ -91,9 +93,11 @@
  * added. TARNFLAW_IMAGE_VERSION is the first version whose images mean what they mean today; such an image is the same on every machine. A firmware that
  * stores an image stores beside it:
  *
- *     the version     TARNFLAW_IMAGE_VERSION. Where another number stands there, it starts from tarnflaw_empty, or refuses to start
- *     a checksum      of its own, since soundness is none: of 69,615 images that differ from case B's in one byte 675 are sound. Byte 86,
- *                     say, the low byte of id 0's kept shortfall, may hold anything: with 0 there id 0 stands at 0 at slot 7, and not at 192
+ *     the version     TARNFLAW_IMAGE_VERSION. Where another number stands there, it starts from tarnflaw_empty, or refuses to start. (An image of an
+ *                     older version can be carried over: "From version 4 to version 5")
+ *     a checksum      of its own, since soundness is none: of 85,935 images that differ from case B's in one byte 217 are sound. Byte 276,
+ *                     say, the low byte of id 1's shortfall at the request slot, may hold 0 to 192: with 0 there id 1 stands at 0 at slot 6, and not
+ *                     at 192. Byte 84, id 0's R, may hold 1 to 8: with 2 there a short field for id 0 asks R 2
  *     the next slot   since the slots belong to the image. A board that counts from 0 again is refused 6 before the image's request slot; one that
  *                     skips slots, as over a power failure, is told a shortfall as if they had been given
  *
@@ -102,11 +106,11 @@
  *
  * From version 1 to version 2
  *
- * Exchange the header and the archive together: the archive tells no version. Images stay: what a firmware of version 1 stored as the version, its
- * TARNFLAW_VERSION 1, is TARNFLAW_IMAGE_VERSION now. It has to be compared with that, since a test against TARNFLAW_VERSION would throw good images away.
- * In version 1 both refusals above were 9 with place 0, TARNFLAW_NO_SCHEDULE. The name is gone, so that what compared with it is looked at: it asks for
- * 9 and for 11 now. A literal 9 compiles on, and misses the 11. Numbers go up to 11: a table by number has 12 entries. How a logged 9 of version 1 is
- * read stands in docs/DICTIONARY.md, "Earlier meanings"; a firmware that logs answers logs TARNFLAW_VERSION with them.
+ * Exchange the header and the archive together: the archive tells no version. Images stay, up to version 4: what a firmware of version 1 stored as the
+ * version, its TARNFLAW_VERSION 1, is TARNFLAW_IMAGE_VERSION there. It has to be compared with that, since a test against TARNFLAW_VERSION would throw
+ * good images away. In version 1 both refusals above were 9 with place 0, TARNFLAW_NO_SCHEDULE. The name is gone, so that what compared with it is looked
+ * at: it asks for 9 and for 11 now. A literal 9 compiles on, and misses the 11. Numbers go up to 11: a table by number has 12 entries. How a logged 9 of
+ * version 1 is read stands in docs/DICTIONARY.md, "Earlier meanings"; a firmware that logs answers logs TARNFLAW_VERSION with them.
  *
  * From version 2 to version 3
  *
@@ -131,15 +135,45 @@
  *     acceptances     Such an id keeps its larger R, and so may fall further behind than before. Transition and offsets may be others, too
  *     logs            4 is the version from now on. It tells how a logged request with short fields is read (docs/DICTIONARY.md, "Earlier meanings")
  *
+ * From version 4 to version 5
+ *
+ * Exchange the header and the archive together, and compile anew all that has an image. Requests, answers and schedules have the form and the meaning
+ * that they had, and so have the numbers of changes and of the owner query. The image has another form, and tarnflaw_standing tells more. Look at:
+ *
+ *     memory          An image has 337 bytes, and had 273: 64 more for each one that is kept, stored or sent. The first 273 are what they were; the
+ *                     shortfalls at the request slot follow. 273 as a literal size is refused 1 by every function, and no byte of the image changes
+ *     stored images   One of 273 bytes is refused 1. It can be carried over from its base on (below); else start from tarnflaw_empty
+ *     other images    One that was not made by calls needs the shortfalls at the request slot too, such that the walk leads to those at the base
+ *     the screen      tarnflaw_standing answers from the request slot on, during a transition too. It gave 6 up to the base, and gives it only before
+ *                     the request slot now: what left a service screen blank during a change can go. What took that 6 for the sign of a transition
+ *                     compares the slot with the base, bytes 73 to 80
+ *     slices          They are counted from the request slot on, and were from the base: also in the cycle there are more, by the transition slots
+ *                     that the id had. Who added these by hand does so no longer
+ *     logs            5 is the version from now on. It tells how a logged standing is read (docs/DICTIONARY.md, "Earlier meanings")
+ *
+ * An image of versions 1 to 4, which is stored with the version 1, does not have the shortfalls at its request slot. But from its base on they are not
+ * needed: the base becomes the request slot of a timetable without a transition, where the shortfalls at the base are those at the request slot too. With
+ * `old` the 273 bytes, once their version, their checksum and the next slot were found good:
+ *
+ *     memset(image, 0, TARNFLAW_IMAGE);                             no transition: length 0, and the owners 0
+ *     memcpy(image, old + 73, 8);                                   the request slot: the old base
+ *     memcpy(image + 73, old + 73, 8 + 6 * TARNFLAW_IDS);           the base, and each id's period, offset, R and shortfall at the base
+ *     for (id = 0; id < TARNFLAW_IDS; id++)
+ *         memcpy(image + 273 + 2 * id, old + 85 + 6 * id, 2);       the shortfall at the request slot: that at the base
+ *
+ * If the old image was sound, and its base is at most TARNFLAW_LAST_SLOT, this one is sound. From the base on it tells the owners and the shortfalls of
+ * the old one, slices counted from the base, and each change of it has the answer, and leaves the image, that it would have with the transition still
+ * there. Before the base it refuses 6: so a board whose next slot lies in the old transition starts from tarnflaw_empty.
+ *
  * Calls that overlap
  *
  * tarnflaw_empty and tarnflaw_change write the image piece by piece, in no promised order. Until they have returned, no other call on that image
- * may run: an interrupt that asks tarnflaw_owner in the midst of a change reads a torn image, and can be told a wrong owner as accepted. (With
- * bytes 0 to 80 of case B's new image and the others still of the old one, slot 7 is told idle, though id 0 has it in both.) Nor may anything
- * else write the image, the request or the area during a call. The two queries only read the image, and write only what their own pointers lead
- * to: any number of them may overlap on one image. Calls on different images may overlap as they like. The three functions that have no image read and
- * write only what their own pointers lead to. They may overlap with every call that writes nothing that they read or write, and reads nothing that they
- * write: so not tarnflaw_write_request with a tarnflaw_change that reads the request from the same bytes.
+ * may run: an interrupt that asks tarnflaw_owner in the midst of a change reads a torn image, and can be told a wrong owner as accepted. (After case A
+ * what is there is asked for at slot 6: with bytes 0 to 80 of the new image and the others still of the old one, slot 7 is told idle, though id 0 has it
+ * in both.) Nor may anything else write the image, the request or the area during a call. The two queries only read the image, and write only what their
+ * own pointers lead to: any number of them may overlap on one image. Calls on different images may overlap as they like. The three functions that have no
+ * image read and write only what their own pointers lead to. They may overlap with every call that writes nothing that they read or write, and reads
+ * nothing that they write: so not tarnflaw_write_request with a tarnflaw_change that reads the request from the same bytes.
  *
  * A change beside a dispatcher
  *
@@ -180,7 +214,9 @@
  *     its answer      An answer is archived once its copy is TAKEN: that of a copy that was dropped was never in force.
  *     a second one    A change while another waits is put off until that is TAKEN or LATE. So a request slot lies a few slots ahead, and not far.
  *
- * The task may ask queries on images[in_force] at any time: nobody but the task writes an image. A dispatcher that is refused runs the slot idle,
+ * The task may ask queries on images[in_force] at any time: nobody but the task writes an image. So a service screen shows the present slot, during a
+ * transition too. It looks at the slot first and then at in_force: a 6 then says that a copy was taken over in between, and it looks again. (The other
+ * way round an image that is no longer in force may tell it a later slot, as if it still were.) A dispatcher that is refused runs the slot idle,
  * but it counts it or reports it: after a right start there are none up to TARNFLAW_LAST_SLOT. The above is not enough where two tasks change (they
  * need an exclusion of their own), where the task can interrupt the dispatcher, or on two cores.
  *
@@ -220,9 +256,9 @@
 extern "C" {
 #endif
 
-#define TARNFLAW_VERSION 4                   /* the version of the library, to be logged with an answer */
-#define TARNFLAW_IMAGE_VERSION 1             /* the first version whose images mean what they mean today, to be stored beside an image */
-#define TARNFLAW_IMAGE 273                   /* bytes of an image */
+#define TARNFLAW_VERSION 5                   /* the version of the library, to be logged with an answer */
+#define TARNFLAW_IMAGE_VERSION 5             /* the first version whose images mean what they mean today, to be stored beside an image */
+#define TARNFLAW_IMAGE 337                   /* bytes of an image */
 #define TARNFLAW_REQUEST 207                 /* bytes that a request has at most */
 #define TARNFLAW_AREA 231                    /* bytes that an answer has at most, and an answer area at least */
 #define TARNFLAW_SCHEDULE 129                /* bytes of a schedule, and what an answer is read into has at least */
@@ -295,16 +331,16 @@ uint8_t tarnflaw_change(uint8_t *image, size_t image_size,
 uint8_t tarnflaw_owner(const uint8_t *image, size_t image_size, uint64_t slot,
                        size_t *place, uint8_t *owner);
 
-/* How a partition stands at the start of a slot (docs/RULES.md 8.2).
+/* How a partition stands at the start of a slot, in a transition as well as in the cycle (docs/RULES.md 3.15 and 8.2).
  *
  *     image, image_size   the image
  *     id                  the partition, below TARNFLAW_IDS
- *     slot                the slot, from the base on, at most TARNFLAW_LAST_SLOT
+ *     slot                the slot, from the last accepted request slot on, at most TARNFLAW_LAST_SLOT
  *     place               told: 0
  *     shortfall           told: its shortfall at the slot's start, in 256ths of a slot; 0 on a refusal
- *     slices              told: the slots it has had from the base up to there; 0 on a refusal
+ *     slices              told: the slots it has had from the last accepted request slot up to there, its transition slots among them; 0 on a refusal
  *
- * Refuses 1, then 4 (id or slot), then 6 (slot before the base), then 10 (id not listed). */
+ * Refuses 1, then 4 (id or slot), then 6 (slot before the last accepted request slot), then 10 (id not listed). */
 uint8_t tarnflaw_standing(const uint8_t *image, size_t image_size, uint8_t id, uint64_t slot,
                           size_t *place, uint16_t *shortfall, uint64_t *slices);
 
