@@ -125,10 +125,8 @@ fn refused_above() -> u8 {
 fn add_cost(figures: &mut Figures) {
     let run = run_b();
     let before = run.present().base - 1;
-    let request = outcome(&run, &request_b(before, LONGEST_TRANSITION as u8)).number;
-    let standing = standing_query(&run.present(), VALVE, before).0;
-    let refused = list(in_turn([request, standing].into_iter()));
-    figures.phrase(RAISING, format!("before its base is refused {refused};"));
+    let refused = outcome(&run, &request_b(before, LONGEST_TRANSITION as u8)).number;
+    figures.phrase(RAISING, format!("a slot before its base is refused {refused};"));
     let lasts = LONGEST_TRANSITION * SLOT_MS;
     figures.phrase(RAISING, format!("the longest, {LONGEST_TRANSITION} slots, takes {lasts} ms"));
 }

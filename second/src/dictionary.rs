@@ -1,6 +1,7 @@
 //! The figures of docs/DICTIONARY.md, section by section.
 
 use crate::archived;
+use crate::built::led_to;
 use crate::cases::{
     all_listed, record, request_a, request_b, request_d, request_j_overfull, request_short,
 };
@@ -16,6 +17,7 @@ use crate::records::{
     TAG_OFFSET, TAG_OWNERS, TAG_SHARE, TAG_SLOT,
 };
 use crate::run::Run;
+use crate::screen;
 use crate::slots::{last_offset, room};
 use crate::timetable::{
     Share, Timetable, CYCLE, IDLE, IDS, LARGEST_BOUND, LARGEST_EXPONENT, LAST_SLOT,
@@ -59,6 +61,7 @@ pub fn add_to(figures: &mut Figures) {
     add_queries(figures);
     archived::add_to(figures);
     untouched::add_to(figures);
+    screen::add_to(figures);
     add_line(figures);
 }
 
@@ -79,14 +82,15 @@ fn add_head(figures: &mut Figures) {
     figures.phrase(section, format!("slots of {CYCLE} each. Below {CYCLE} R the bound R is kept"));
     figures.phrase(section, "Slots.antt`: 0 where the partition is newly listed");
     figures.phrase(section, format!("the larger of 0 and (shortfall + weight - {CYCLE} if"));
-    let b = run_b().present();
-    figures.phrase(section, format!("(B: slot {})", list(b.request_slot..b.base)));
-    let refused = standing_query(&b, PUMP_LOOP, b.request_slot).0;
-    figures.phrase(section, format!("the standing query is refused {refused} there"));
-    let told = |id: u8| standing_query(&run_a().present(), id, b.request_slot).1;
-    let before = list_and([told(PUMP_LOOP), told(DETECTOR)]);
-    let newly = run_b().shortfall(VALVE, b.request_slot);
-    figures.phrase(section, format!("before the change (B: {before}; newly listed: {newly})"));
+    let (a, b) = (run_a().present(), run_b().present());
+    figures.phrase(section, format!("transition (B: slot {})", list(b.request_slot..b.base)));
+    let refused = standing_query(&b, PUMP_LOOP, b.request_slot - 1).0;
+    figures.phrase(section, format!("Before the request slot it is refused {refused};"));
+    let told = |id: u8| [a, b].map(|timetable| standing_query(&timetable, id, b.request_slot).1);
+    let both = [PUMP_LOOP, DETECTOR].map(|id| list(in_turn(told(id).into_iter())));
+    figures.phrase(section, format!("of an id that stays (B: {})", list_and(both)));
+    let newly = standing_query(&b, VALVE, b.request_slot).1;
+    figures.phrase(section, format!("one that is newly listed starts at {newly}"));
 }
 
 /// The windows of the pump loop that end at case B's slot, from the longest to the empty one.
@@ -261,9 +265,10 @@ fn add_words(figures: &mut Figures) {
     figures.phrase(section, format!("told as {IDLE}, which is no id"));
     let idle = format!("A: slot {}: {}", last + 1, run.owner(last + 1));
     figures.cell(section, format!("idle, owner {IDLE}"), idle);
-    let Timetable { request_slot, length, .. } = Timetable::empty();
-    let starts = format!("request slot {request_slot}, length {length}, nothing listed");
-    figures.phrase(section, starts);
+    let Timetable { request_slot, length, entries, starts, .. } = Timetable::empty();
+    let owed = list(in_turn(entries.map(|entry| entry.shortfall).into_iter().chain(starts)));
+    let listed = format!("nothing listed, every shortfall {owed}");
+    figures.phrase(section, format!("request slot {request_slot}, length {length}, {listed}"));
     let first = format!("slot {request_slot}: {}", Run::empty().owner(request_slot));
     figures.cell(section, "the empty timetable", first);
     let both = run_b();
@@ -317,9 +322,25 @@ fn add_search(figures: &mut Figures) {
     let sizes =
         format!("{owners} owners and {listed} ids: {size} bytes; B: {} bytes", outcome.written);
     figures.cell(section, "answer area", sizes);
-    let unsound = Timetable { base: b.base + 1, ..b };
-    let refused = answered(&Run::empty().with(unsound), &bytes_b()).0.number;
-    figures.cell(section, "sound", format!("B with base {}: refused {refused}", unsound.base));
+    add_sound(figures, section);
+}
+
+/// "Words": case B's timetable with another base, and with another start.
+fn add_sound(figures: &mut Figures, section: &str) {
+    let (b, pump) = (run_b().present(), usize::from(PUMP_LOOP));
+    figures.phrase(section, format!("at the request slot is below {CYCLE} R, 0 where"));
+    let refused = |unsound: Timetable| {
+        format!("refused {}", answered(&Run::empty().with(unsound), &bytes_b()).0.number)
+    };
+    let base = b.base + 1;
+    let other_base = format!("B with base {base}: {}", refused(Timetable { base, ..b }));
+    let mut starts = b.starts;
+    starts[pump] += 1;
+    let leads = led_to(&b, pump, starts[pump]);
+    let not = format!("leads to {leads} and not to {}", b.entries[pump].shortfall);
+    let start = format!("with {} for id {PUMP_LOOP} at the request slot", starts[pump]);
+    let other_start = format!("{start}, which {not}: {}", refused(Timetable { starts, ..b }));
+    figures.cell(section, "sound", format!("{other_base}; {other_start}"));
 }
 
 /// "Words": transition slots, and the one that case E misses.
@@ -394,13 +415,21 @@ fn add_places(figures: &mut Figures) {
     figures.phrase(PARTITION, "room and period - 1");
     let last = format!("{}: {}", told(valve, owed), last_offset(owed, valve));
     figures.cell(PARTITION, "last offset", last);
-    let own = run.own_slots(DETECTOR, run.present().base..LAST_SHOWN);
-    let own = own.first().copied().unwrap_or(0);
-    let had = |slot: u64| standing_query(&run.present(), DETECTOR, slot).2;
-    let out = format!("slot {}, in the transition, is not counted", asked.slot);
-    let counts = format!("at slot {own}: {}; at slot {}: {}", had(own), own + 1, had(own + 1));
-    let slices = format!("B, id {DETECTOR}: {out}; {counts} (slot {own})");
-    figures.cell(PARTITION, "slices had", slices);
+    add_slices(figures);
+}
+
+/// "Figures of a partition": the slices of the detector in case B, up to its first cyclic slot.
+fn add_slices(figures: &mut Figures) {
+    let (run, Timetable { request_slot, base, .. }) = (run_b(), run_b().present());
+    let own = run.own_slots(DETECTOR, base..LAST_SHOWN).first().copied().unwrap_or(0);
+    let at = |slot: u64, which: &str| {
+        let had = standing_query(&run.present(), DETECTOR, slot).2;
+        format!("at slot {slot}{which}: {had}")
+    };
+    let of = |slot: u64| list(run.own_slots(DETECTOR, request_slot..slot));
+    let first = format!("{}; {} (slot {})", at(request_slot, ""), at(base, ", the base"), of(base));
+    let then = format!("{}; {} (slots {})", at(own, ""), at(own + 1, ""), of(own + 1));
+    figures.cell(PARTITION, "slices had", format!("B, id {DETECTOR}: {first}; {then}"));
 }
 
 /// The highest slot as a power of two.
@@ -419,9 +448,7 @@ fn add_timetable(figures: &mut Figures) {
     figures.cell(section, "owners", list(b.transition()));
     figures.phrase(section, "the cycle's slot 0");
     figures.cell(section, "base", b.base);
-    figures.phrase(section, format!("shortfall at the base | {CYCLE}ths of a slot"));
-    let kept = b.entries.iter().filter(|entry| entry.listed()).map(|entry| entry.shortfall);
-    figures.cell(section, "kept shortfall", list(kept));
+    screen::add_kept(figures, section);
 }
 
 /// "The image in C", of case B: the fields one behind the other.
@@ -434,6 +461,7 @@ fn add_image(figures: &mut Figures) {
     let entries = base + slot;
     let own = [size_of_val(&entry.period), 1, 1, size_of_val(&entry.shortfall)];
     let size: usize = own.iter().sum();
+    let start = size_of_val(&b.starts[0]);
     figures.phrase(section, format!("an image of {IMAGE} bytes"));
     let mut empty = image_of(&Timetable::empty());
     let size_of_empty = empty.len();
@@ -460,8 +488,13 @@ fn add_image(figures: &mut Figures) {
     figures.cell(section, "base", bytes(base, slot));
     figures.phrase(section, format!("| {}; all 0 where", list_and(own)));
     let of = |id: u8| format!("id {id}, {}", bytes(entries + size * usize::from(id), size));
-    let row = "each id's period, offset, R and kept shortfall";
+    let row = "each id's period, offset, R and kept shortfall at the base";
     figures.cell(section, row, format!("{}; {}", of(PUMP_LOOP), of(VALVE)));
+    figures.phrase(section, format!("| {start}; 0 where the id is not listed |"));
+    let starts = entries + size * IDS;
+    let of = |id: u8| format!("id {id}, {}", bytes(starts + start * usize::from(id), start));
+    let row = "each id's kept shortfall at the request slot";
+    figures.cell(section, row, [PUMP_LOOP, DETECTOR, VALVE].map(of).join("; "));
 }
 
 /// "A frame, as bytes", of case B.
@@ -647,8 +680,8 @@ fn add_early(figures: &mut Figures) {
     row("a request", format!("F, after B (base {base})"), slots);
     let slots = around(request_slot, "answered", &owner);
     row("an owner query", format!("after B (request slot {request_slot})"), slots);
-    let slots = around(base, "answered", &standing);
-    row("a standing query", format!("after B (base {base}), id {VALVE}"), slots);
+    let slots = around(request_slot, "answered", &standing);
+    row("a standing query", format!("after B (request slot {request_slot}), id {VALVE}"), slots);
 }
 
 /// "What each number says": the refusals of the later stages, and an id that is not listed.
@@ -676,15 +709,15 @@ fn add_queries(figures: &mut Figures) {
     let run = run_b();
     let slots = run.present().request_slot..run.present().base + 2;
     let owners: Vec<String> =
-        slots.map(|slot| format!("slot {slot}: {}", run.owner(slot))).collect();
+        slots.clone().map(|slot| format!("slot {slot}: {}", run.owner(slot))).collect();
     figures.phrase(section, format!("place 0, the owner or {IDLE} for idle"));
     let row = "owner (slot), from the request slot on";
     figures.cell(section, row, owners.join("; "));
     figures.phrase(section, "place 0, shortfall at the slot's start");
-    let slot = run.present().base + 1;
-    let (_, owed, slices) = standing_query(&run.present(), VALVE, slot);
-    let standing = format!("id {VALVE}, slot {slot}: {owed}, {slices} slices");
-    figures.cell(section, "standing (id, slot), from the base on", standing);
+    let stands: Vec<String> =
+        slots.map(|slot| screen::standing(&run.present(), DETECTOR, slot)).collect();
+    let standing = format!("id {DETECTOR}, {}", stands.join("; "));
+    figures.cell(section, "standing (id, slot), from the request slot on", standing);
     use numbers::{NOT_LISTED, NOT_SOUND, OUT_OF_RANGE, TOO_EARLY};
     let range = format!("a slot above {} or an id above {}", highest_slot(), IDS - 1);
     let stages = format!("They refuse {NOT_SOUND}; then {OUT_OF_RANGE}, {range}");

@@ -1,24 +1,29 @@
 //! The run against the queries and the windows; the cases by T and by slots, and what an old 9 means;
 //! case B's answer read back, whole, damaged and by fields, and its request written; case D and what is
-//! there by short fields, and the R that a short field asked, found in the archive;
+//! there by short fields, and the R that a short field asked, found in the archive; the screen through
+//! a change, old numbers of slices and timetables of before CR 4 carried over;
 //! documents that differ from the figures in a block, an example, the prose or a marker; and every
 //! digit of the dictionary and of docs/WORKED.md.
 
 use crate::archive::{read_answer, tell_field};
 use crate::asking::Asking;
+use crate::built::built;
 use crate::cases::{record, request_a, request_b, request_d, request_left, request_short};
+use crate::change::Outcome;
 use crate::documents::{cited, faults, Document};
 use crate::figures::{list_and, thousands, Figures};
+use crate::probe::IMAGE;
 use crate::queries::{owner_query, standing_query};
 use crate::random::Random;
-use crate::records::{read_request, with_longest, Ask};
+use crate::records::{read_request, with_longest, write_answer, Ask};
 use crate::run::Run;
-use crate::timetable::{IDLE, LAST_SLOT};
+use crate::timetable::{Timetable, IDLE, LAST_SLOT};
 use crate::worked::{
     anew, answer_b, answer_e, answered, as_there, asked, asks_there, before_cr_3, bound_by_archive,
-    broken, by_longest, bytes_e, bytes_with, ids, in_full, left_and_returned, lines_of,
-    nine_before, nine_today, nine_without_longest, only_owners, request_with, run_a, run_b,
-    slots_from_records, Archived, Field, Waiting, VERSION_AS_BEFORE,
+    broken, by_longest, bytes_e, bytes_longer, bytes_with, carried_over, ids, in_full,
+    left_and_returned, lines_of, nine_before, nine_today, nine_without_longest, only_owners,
+    own_in_transition, request_with, run_a, run_b, slots_from_records, Archived, Field, Waiting,
+    VERSION_AS_BEFORE, VERSION_STANDING,
 };
 use std::ops::Range;
 
@@ -103,6 +108,106 @@ fn worked_cases() {
     assert_eq!(run_a().with(anew()).shortfall(0, 8), 256);
     assert_eq!((run_a().owner(4), run_a().owner(7)), (IDLE, 0));
     assert_eq!((Run::empty().owner(LAST_SLOT), Run::empty().shortfall(0, 9)), (IDLE, 0));
+}
+
+/// What the standing query tells of ids 0 to 3: each one's number, shortfall and slices.
+fn stands(timetable: &Timetable, slot: u64) -> [(u8, u16, u64); 4] {
+    [0, 1, 2, 3].map(|id| standing_query(timetable, id, slot))
+}
+
+/// The standing through case B's change, as docs/RULES.md 11.4 has it, and behind it.
+#[test]
+fn worked_standing() {
+    let b = run_b().present();
+    let none = (10, 0, 0);
+    assert_eq!(stands(&b, 5), [(6, 0, 0); 4]);
+    assert_eq!(stands(&b, 6), [(0, 128, 0), (0, 192, 0), (0, 0, 0), none]);
+    assert_eq!(stands(&b, 7), [(0, 192, 0), (0, 0, 1), (0, 128, 0), none]);
+    assert_eq!(stands(&b, 8), [(0, 0, 1), (0, 64, 1), (0, 256, 0), none]);
+    assert_eq!(stands(&b, 10), [(0, 128, 1), (0, 0, 2), (0, 256, 1), none]);
+    assert_eq!((&b.starts[..3], &b.starts[3..]), (&[128, 192, 0][..], &[0; 29][..]));
+}
+
+/// The standing through a transition of three slots: no count falls at the base.
+#[test]
+fn worked_longer_transition() {
+    let longer = run_b().after(&bytes_longer()).present();
+    assert_eq!((longer.request_slot, longer.transition(), longer.base), (9, &[0, 1, 2][..], 12));
+    assert_eq!(stands(&longer, 9), [(0, 64, 0), (0, 128, 0), (0, 128, 0), (0, 0, 0)]);
+    assert_eq!(stands(&longer, 10), [(0, 0, 1), (0, 160, 0), (0, 160, 0), (0, 64, 0)]);
+    assert_eq!(stands(&longer, 11), [(0, 128, 1), (0, 0, 1), (0, 192, 0), (0, 128, 0)]);
+    assert_eq!(stands(&longer, 12), [(0, 256, 1), (0, 32, 1), (0, 0, 1), (0, 192, 0)]);
+    assert_eq!(stands(&longer, 13), [(0, 384, 1), (0, 64, 1), (0, 32, 1), (0, 0, 1)]);
+    assert_eq!(stands(&run_b().present(), 9).map(|it| it.2), [1, 1, 1, 0]);
+}
+
+/// Sound timetables, whether a history reaches them or not, with slots enough behind the base.
+fn any_timetables(seed: u64, mut look: impl FnMut(&mut Random, Timetable)) {
+    let mut random = Random::new(seed);
+    let mut transitions = 0;
+    for _ in 0..600 {
+        let timetable = built(&mut random);
+        if timetable.base < LAST_SLOT - 300 {
+            transitions += usize::from(timetable.length > 0);
+            look(&mut random, timetable);
+        }
+    }
+    assert!(transitions > 100, "transitions are among them: {transitions}");
+}
+
+/// A timetable of before CR 4 carried over is sound, tells the same from the base on but for the
+/// slices, and refuses 6 before it; what its slices lack is told by the answer record alone.
+#[test]
+fn carried_over_from_the_base() {
+    any_timetables(53, |_, today| {
+        let (old, record) = (carried_over(&today), write_answer(&today));
+        assert!(today.sound() && old.sound());
+        for slot in today.request_slot..today.base {
+            assert_eq!((owner_query(&old, slot).0, standing_query(&old, 0, slot).0), (6, 6));
+        }
+        for slot in [0, 1, 2, 3, 5, 8, 70, 290].map(|n| today.base + n) {
+            assert_eq!(owner_query(&old, slot), owner_query(&today, slot));
+            for id in 0..32 {
+                let (number, shortfall, slices) = standing_query(&old, id, slot);
+                let added = if number == 0 { own_in_transition(&record, id) } else { 0 };
+                assert_eq!(standing_query(&today, id, slot), (number, shortfall, slices + added));
+            }
+        }
+    });
+}
+
+/// Each change of a timetable carried over is answered as one of the timetable with its transition,
+/// and leaves the same timetable.
+#[test]
+fn changes_of_what_is_carried_over() {
+    let (mut accepted, mut refused) = (0, 0);
+    any_timetables(59, |random, today| {
+        let [old, new] = [carried_over(&today), today].map(|present| Run::empty().with(present));
+        let slot = today.base + random.below(9);
+        for request in [as_there(&new, slot, 8), request_d(slot, 64)] {
+            let [of_old, of_new] = [&old, &new].map(|run| answered(run, &request));
+            assert_eq!(of_old.1, of_new.1);
+            let told = |it: &Outcome| (it.number, it.place, it.tries, it.written);
+            assert_eq!(told(&of_old.0), told(&of_new.0));
+            if of_new.0.number == 0 {
+                assert_eq!(of_old.0.timetable, of_new.0.timetable);
+                accepted += 1;
+            } else {
+                refused += 1;
+            }
+        }
+    });
+    assert!(accepted > 100 && refused > 30, "{accepted} and {refused} are among them");
+}
+
+/// With a base above the last slot a timetable can be sound, and can't be carried over.
+#[test]
+fn base_above_the_last_slot() {
+    let b = run_b().present();
+    let late = Timetable { request_slot: LAST_SLOT, base: LAST_SLOT + 1, ..b };
+    assert!(late.sound() && !carried_over(&late).sound());
+    let last = Timetable { request_slot: LAST_SLOT - 1, base: LAST_SLOT, ..b };
+    assert!(last.sound() && carried_over(&last).sound());
 }
 
 /// The answers to case B's listing after A and to case E, by T, as docs/RULES.md 11 has them.
@@ -367,6 +472,20 @@ fn version_of_the_header() {
     let told =
         header.split(&heading).nth(1).and_then(|rest| rest.split(" * Calls that overlap").next());
     assert!(told.is_some_and(|told| told.contains("a short field asked R 1 of every id")));
+}
+
+/// The version that tells the standing from the request slot on is the one that the header tells of,
+/// and so are its images.
+#[test]
+fn version_of_the_image() {
+    let header = include_str!("../../include/tarnflaw.h");
+    let heading = format!("From version {} to version {VERSION_STANDING}\n", VERSION_STANDING - 1);
+    let told =
+        header.split(&heading).nth(1).and_then(|rest| rest.split(" * Calls that overlap").next());
+    assert!(told.is_some_and(|told| told.contains("counted from the request slot on, and were")));
+    let defined = |name: &str, value: usize| header.contains(&format!("#define {name} {value} "));
+    assert!(defined("TARNFLAW_IMAGE_VERSION", usize::from(VERSION_STANDING)));
+    assert!(defined("TARNFLAW_IMAGE", IMAGE));
 }
 
 /// An 8 names no id whose field is short.

@@ -7,6 +7,7 @@ use crate::figures::{code, hexadecimal, list, list_and, thousands, Figures};
 use crate::frames::{frame, LONGEST_FRAME};
 use crate::numbers::ACCEPTED;
 use crate::records::{longest_field, slot_field, HEAD};
+use crate::screen::{kept, standing};
 use crate::slots::room;
 use crate::timetable::{Listing, CYCLE};
 use crate::worked::{
@@ -25,6 +26,7 @@ pub fn add_to(figures: &mut Figures) {
     add_reading(figures);
     add_search(figures);
     add_answer(figures);
+    add_told(figures);
     add_readme(figures);
 }
 
@@ -136,6 +138,18 @@ fn add_answer(figures: &mut Figures) {
     figures.cell(section, "number, place, tries and the new timetable are returned", returned);
     let last = lines().pop().unwrap_or_default();
     figures.cell(section, "the line is printed", format!("`{last}`"));
+}
+
+/// "Follow one request": the kept shortfalls, and what the screen is told up to the base.
+fn add_told(figures: &mut Figures) {
+    let section = "Follow one request";
+    let b = run_b().present();
+    let row = "the new timetable keeps the shortfalls, at the request slot and at the base";
+    figures.cell(section, row, kept(&b).map(list).join(" and "));
+    let stands = (b.request_slot..=b.base).map(|slot| standing(&b, DETECTOR, slot));
+    let stands: Vec<String> = stands.collect();
+    let row = "the service screen asks how an id stands, in the transition too";
+    figures.cell(section, row, format!("id {DETECTOR}, {}", stands.join("; ")));
 }
 
 /// README.md: what stands around the lines of cases A and B.

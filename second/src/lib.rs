@@ -34,6 +34,7 @@ mod desk;
 mod dictionary;
 mod followed;
 mod run;
+mod screen;
 mod slots;
 mod spoil;
 mod untouched;

@@ -16,12 +16,17 @@ use crate::timetable::{Listing, Share, Timetable, CYCLE, IDLE, IDS, LONGEST_TRAN
 pub const PUMP_LOOP: u8 = 0;
 pub const DETECTOR: u8 = 1;
 pub const VALVE: u8 = 2;
+pub const LINK: u8 = 3;
 
 /// How long a slot lasts, in ms (docs/RULES.md 1.2).
 pub const SLOT_MS: usize = 2;
 
 /// The first version of the library that takes a short field as before (include/tarnflaw.h).
 pub const VERSION_AS_BEFORE: u8 = 4;
+
+/// The first version of the library that tells the standing from the request slot on
+/// (include/tarnflaw.h).
+pub const VERSION_STANDING: u8 = 5;
 
 /// The last slot that the documents show of case B.
 pub const LAST_SHOWN: u64 = 14;
@@ -287,6 +292,7 @@ pub fn name(id: u8) -> &'static str {
         PUMP_LOOP => "pump loop",
         DETECTOR => "detector",
         VALVE => "valve",
+        LINK => "link",
         _ => "nobody",
     }
 }
@@ -306,6 +312,31 @@ pub fn least_room(listing: &Listing, at: &Waiting) -> (u16, Vec<u8>) {
 /// What a share's shortfall stays below: 256 R.
 pub fn limit_of(share: Share) -> usize {
     CYCLE * usize::from(share.bound)
+}
+
+/// A request after case B whose transition is longer: the link joins, and every share is another.
+pub fn bytes_longer() -> Vec<u8> {
+    let shares = [(PUMP_LOOP, 1, 2), (DETECTOR, 3, 1), (VALVE, 3, 1), (LINK, 2, 1)];
+    record(9, LONGEST_TRANSITION as u8, &shares)
+}
+
+/// A timetable of before CR 4 carried over, which is one from the base on: without a transition, and
+/// with the shortfalls at the base as its starts. What it tells was told of the timetable then.
+pub fn carried_over(timetable: &Timetable) -> Timetable {
+    Timetable {
+        request_slot: timetable.base,
+        length: 0,
+        owners: [0; LONGEST_TRANSITION],
+        starts: timetable.entries.map(|entry| entry.shortfall),
+        ..*timetable
+    }
+}
+
+/// The transition slots that an id had, by the answer record alone: what a number of slices from
+/// before CR 4 has less than one of today.
+pub fn own_in_transition(record: &[u8], id: u8) -> u64 {
+    let owners = read_answer(record).unwrap_or_default().owners;
+    owners.iter().filter(|&&owner| owner == id).count() as u64
 }
 
 /// Some bytes with one of them changed.
