@@ -1,6 +1,7 @@
 /* The library as a firmware uses it: a dispatcher beside a task that changes the timetable by cases A, C and E (docs/RULES.md 11.A, 11.C and 11.E),
- * where C with the longest T is answered as B is, and by a request that the method software sent; an answer that is archived and read; and a stored
- * image at a start. The interrupts are plain calls here. See include/tarnflaw.h. Compiles as C99 and as C++11. */
+ * where C with the longest T is answered as B is, and by a request that the method software sent; a service screen, during a change too; an answer that
+ * is archived and read; and a stored image at a start, also one of versions 1 to 4. The interrupts are plain calls here. See include/tarnflaw.h. Compiles
+ * as C99 and as C++11. */
 #include <signal.h>
 #include <stdio.h>
 #include <string.h>
@@ -154,6 +155,30 @@ static void print_bounds(void)
     printf(" from slot %u on\n", (unsigned)request_slot(image));
 }
 
+/* The service screen at a slot: how each listed partition stands, by the image in force. Each slot has one, in a transition too. (A firmware looks at
+ * its slot first and then at in_force: if 6 is told, the dispatcher took a copy over in between, and it looks again.) */
+static void screen(uint64_t slot)
+{
+    const char *joint = ":";
+    size_t place;
+    uint16_t shortfall;
+    uint64_t slices;
+    uint8_t id, number;
+
+    printf("  screen");
+    for (id = 0; id < TARNFLAW_IDS; id++) {
+        number = tarnflaw_standing(images[in_force], TARNFLAW_IMAGE, id, slot, &place, &shortfall, &slices);
+        if (number == TARNFLAW_NOT_LISTED)
+            continue;
+        if (number == TARNFLAW_ACCEPTED)
+            printf("%s id %u at %u, slices %u", joint, id, shortfall, (unsigned)slices);
+        else
+            printf("%s id %u refused, %u", joint, id, number);
+        joint = ";";
+    }
+    printf("\n");
+}
+
 /* Reads the archived answer whole, and prints what it says of the transition and how many ids it lists, or why it is refused. */
 static void read_archived(const char *name)
 {
@@ -176,7 +201,10 @@ static void run(uint64_t slot, uint64_t last)
 {
     const sig_atomic_t before = refused;
 
-    printf("slots %u to %u:", (unsigned)slot, (unsigned)last);
+    if (slot == last)
+        printf("slot %u:", (unsigned)slot);
+    else
+        printf("slots %u to %u:", (unsigned)slot, (unsigned)last);
     for (; slot <= last; slot++) {
         uint8_t owner = dispatch(slot);
         if (owner == TARNFLAW_IDLE)
@@ -185,6 +213,15 @@ static void run(uint64_t slot, uint64_t last)
             printf(" %u", owner);
     }
     printf("; copy %s, refused %d\n", copy == WAITING ? "waiting" : copy == LATE ? "late" : "taken", (int)(refused - before));
+}
+
+/* Lets the slots from one to another begin, one at a time, and prints what the screen shows at each. */
+static void watch(uint64_t slot, uint64_t last)
+{
+    for (; slot <= last; slot++) {
+        run(slot, slot);
+        screen(slot);
+    }
 }
 
 /* What the board stores: an image, the version that its meaning has, the next slot, and a checksum over these. */
@@ -229,19 +266,42 @@ static void start(const char *name, const struct stored *s)
     run(against ? 0 : s->slot, against ? 3 : s->slot + 3);
 }
 
-/* Starts from a stored image, and from the same with one thing changed. */
+/* An image of versions 1 to 4, which has no shortfalls at the request slot, and the version that is stored beside it. */
+#define OLD_IMAGE 273
+#define OLD_IMAGE_VERSION 1
+
+/* Carries an old image over, as a timetable from its base on, with the next slot: what would be stored of it today. (A firmware tests the checksum of the
+ * old bytes first.) A next slot before the base is refused at the start. */
+static struct stored carried_over(const uint8_t *old, uint8_t version, uint64_t slot)
+{
+    struct stored s;
+    size_t id;
+
+    memset(s.image, 0, TARNFLAW_IMAGE);
+    memcpy(s.image, old + 73, 8);
+    memcpy(s.image + 73, old + 73, 8 + 6 * TARNFLAW_IDS);
+    for (id = 0; id < TARNFLAW_IDS; id++)
+        memcpy(s.image + 273 + 2 * id, old + 85 + 6 * id, 2);
+    s.version = version == OLD_IMAGE_VERSION ? TARNFLAW_IMAGE_VERSION : version;
+    s.slot = slot;
+    s.sum = sum_of(&s);
+    return s;
+}
+
+/* Starts from a stored image, from the same with one thing changed, and from one that version 4 would have stored: its first bytes. */
 static void starts(struct stored *s)
 {
     struct stored other = *s;
+    uint8_t old[OLD_IMAGE];
 
     start("stored", s);
     other.version++;
     other.sum = sum_of(&other);
     start("of another version", &other);
     other = *s;
-    other.image[86] = 0;
-    start("byte 86 damaged, which leaves it sound", &other);
-    other.image[86] = s->image[86];
+    other.image[276] = 0;
+    start("byte 276 damaged, which leaves it sound", &other);
+    other.image[276] = s->image[276];
     other.image[8] = TARNFLAW_LONGEST + 1;
     other.sum = sum_of(&other);
     start("not sound, under a right checksum", &other);
@@ -249,6 +309,11 @@ static void starts(struct stored *s)
     other.slot = 0;
     other.sum = sum_of(&other);
     start("with slots counted from 0 again", &other);
+    memcpy(old, s->image, OLD_IMAGE);
+    other = carried_over(old, OLD_IMAGE_VERSION, s->slot);
+    start("of version 4, carried over", &other);
+    other = carried_over(old, OLD_IMAGE_VERSION, 6);
+    start("of version 4, stored in its transition", &other);
 }
 
 int main(void)
@@ -267,7 +332,8 @@ int main(void)
     archived[archived_size - 2] = 0;
     read_archived("with its last id at 0");
     print_archived();
-    run(2, 8);
+    run(2, 4);
+    watch(5, 8);
     change("E, for slot 9", 9, 0, listed_e, sizeof listed_e);
     change("E with T 3", 9, 3, listed_e, sizeof listed_e);
 

@@ -1,5 +1,6 @@
 /* What include/tarnflaw.h says, tried: each number and each limit, the order in which functions refuse, the forms of image, schedule, request and answer,
- * what a short field asks, reading answers and writing requests, and what soundness does not notice. Compiles as C99 and as C++11. */
+ * what a short field asks, the standing during a change, reading answers and writing requests, an old image carried over, and what soundness does not
+ * notice. Compiles as C99 and as C++11. */
 #include <stdio.h>
 #include <string.h>
 
@@ -17,6 +18,7 @@
 #define LISTED_THERE SHORT(0, 2), SHORT(1, 2), SHORT(2, 1)
 
 static const uint8_t case_a[] = { SLOT(0), LIMIT(0), LIST(0, 2, 1), LIST(1, 2, 1) };
+static const uint8_t there_after_a[] = { SLOT(6), LIMIT(0), SHORT(0, 2), SHORT(1, 2) };
 static const uint8_t case_b[] = { SLOT(6), LIMIT(1), LISTED_B };
 static const uint8_t case_c[] = { SLOT(6), LIMIT(0), LISTED_B };
 static const uint8_t case_d[] = { SLOT(8), LIMIT(0), LISTED_D };
@@ -95,12 +97,24 @@ static void show_order(void)
     printf("the owner query refuses %u, then %u, then %u\n", n[0], n[1], n[2]);
     printf("the last slot: %u %s, owner %u\n", n[3], says(n[3]), owner);
 
-    n[0] = standing(TARNFLAW_IDS, 6, TARNFLAW_IMAGE - 1);
-    n[1] = standing(TARNFLAW_IDS, 6, TARNFLAW_IMAGE);
-    n[2] = standing(TARNFLAW_IDS - 1, 6, TARNFLAW_IMAGE);
-    n[3] = standing(TARNFLAW_IDS - 1, 7, TARNFLAW_IMAGE);
+    n[0] = standing(TARNFLAW_IDS, 5, TARNFLAW_IMAGE - 1);
+    n[1] = standing(TARNFLAW_IDS, 5, TARNFLAW_IMAGE);
+    n[2] = standing(TARNFLAW_IDS - 1, 5, TARNFLAW_IMAGE);
+    n[3] = standing(TARNFLAW_IDS - 1, 6, TARNFLAW_IMAGE);
     printf("the standing query refuses %u, then %u, then %u, then %u\n", n[0], n[1], n[2], n[3]);
     standing(0, TARNFLAW_LAST_SLOT + 1, TARNFLAW_IMAGE);
+}
+
+/* Prints how the partitions of case B stand from its request slot on: in the transition, at the base, and a slot and three slots behind it. */
+static void show_standing(void)
+{
+    static const uint64_t slots[] = { 6, 7, 8, 10 };
+    size_t i;
+    uint8_t id;
+
+    for (i = 0; i < sizeof slots / sizeof slots[0]; i++)
+        for (id = 0; id < 3; id++)
+            standing(id, slots[i], TARNFLAW_IMAGE);
 }
 
 /* Prints a record, a field a line. */
@@ -145,7 +159,8 @@ static void show_image(void)
 {
     static const struct part parts[] = {
         { "request slot", 0, 8, 0 }, { "transition length", 8, 1, 0 }, { "owners", 9, TARNFLAW_LONGEST, 0 }, { "base", 73, 8, 0 },
-        { "period", 81, 2, 6 }, { "offset", 83, 1, 6 }, { "bound R", 84, 1, 6 }, { "shortfall at the base", 85, 2, 6 }
+        { "period", 81, 2, 6 }, { "offset", 83, 1, 6 }, { "bound R", 84, 1, 6 }, { "shortfall at the base", 85, 2, 6 },
+        { "shortfall at the request slot", 273, 2, 2 }
     };
 
     show_parts("image", image, parts, sizeof parts / sizeof parts[0]);
@@ -194,19 +209,24 @@ static void show_short(void)
     memcpy(image, b, TARNFLAW_IMAGE);
 }
 
-/* Prints who has slot 7 by an image that is torn: its first bytes, up to the base, of the present image and the others of an older one. */
-static void show_torn(const uint8_t *older)
+/* Asks for what is there after case A at slot 6, and prints who has slot 7 by an image that is torn: its first bytes, up to the base, of the new image
+ * and the others of the old one. The old one is in force again afterwards. */
+static void show_torn(void)
 {
-    uint8_t torn[TARNFLAW_IMAGE];
+    uint8_t older[TARNFLAW_IMAGE], torn[TARNFLAW_IMAGE];
+    uint8_t number;
 
+    memcpy(older, image, TARNFLAW_IMAGE);
+    CHANGE("what is there after A, at slot 6", there_after_a);
     memcpy(torn, older, TARNFLAW_IMAGE);
     memcpy(torn, image, 81);
     tarnflaw_owner(older, TARNFLAW_IMAGE, 7, &place, &owner);
     printf("slot 7: owner %u before,", owner);
     tarnflaw_owner(image, TARNFLAW_IMAGE, 7, &place, &owner);
     printf(" %u after,", owner);
-    tarnflaw_owner(torn, TARNFLAW_IMAGE, 7, &place, &owner);
-    printf(" %s in a torn image\n", owner == TARNFLAW_IDLE ? "idle" : "right");
+    number = tarnflaw_owner(torn, TARNFLAW_IMAGE, 7, &place, &owner);
+    printf(" %s in a torn image, %u %s\n", owner == TARNFLAW_IDLE ? "idle" : "right", number, says(number));
+    memcpy(image, older, TARNFLAW_IMAGE);
 }
 
 /* Prints how many of the images that differ in one byte are sound. */
@@ -226,6 +246,105 @@ static void show_damage(void)
         image[i] = right;
     }
     printf("of %u,%03u images that differ from case B's in one byte %u are sound\n", damaged / 1000, damaged % 1000, sound);
+}
+
+/* Changes a byte of the image, prints how a partition then stands at a slot, and changes it back. */
+static void damaged(size_t byte, uint8_t value, uint8_t id, uint64_t slot)
+{
+    const uint8_t right = image[byte];
+
+    image[byte] = value;
+    printf("byte %zu at %u: ", byte, value);
+    standing(id, slot, TARNFLAW_IMAGE);
+    image[byte] = right;
+}
+
+/* Asks for what is there by short fields where id 0's R is damaged: it is asked as before. Case B's image is in force again afterwards. */
+static void show_other_bound(void)
+{
+    uint8_t b[TARNFLAW_IMAGE], other[TARNFLAW_IMAGE];
+
+    memcpy(b, image, TARNFLAW_IMAGE);
+    memcpy(other, image, TARNFLAW_IMAGE);
+    other[84] = 2;
+    CHANGE_OF("what is there, at slot 8, with byte 84 at 2", other, there_8);
+    memcpy(image, b, TARNFLAW_IMAGE);
+}
+
+#define OLD_IMAGE 273 /* bytes of an image of versions 1 to 4, which has no shortfalls at the request slot */
+
+/* Carries an old image over: from its base on, as a timetable without a transition. */
+static void carry_over(uint8_t *to, const uint8_t *old)
+{
+    size_t id;
+
+    memset(to, 0, TARNFLAW_IMAGE);
+    memcpy(to, old + 73, 8);
+    memcpy(to + 73, old + 73, 8 + 6 * TARNFLAW_IDS);
+    for (id = 0; id < TARNFLAW_IDS; id++)
+        memcpy(to + 273 + 2 * id, old + 85 + 6 * id, 2);
+}
+
+/* Prints in how many slots from the base on, of a thousand, an image and the present one tell another owner, or of ids 0 to 2 another shortfall, and
+ * by how many slices each of these has less there. */
+static void compare_from(uint64_t base, const uint8_t *other)
+{
+    unsigned differ = 0;
+    uint64_t less[3] = { 0, 0, 0 };
+    uint64_t slot, slices, counted;
+    uint16_t shortfall, owed;
+    uint8_t has, id;
+
+    for (slot = base; slot < base + 1000; slot++) {
+        tarnflaw_owner(image, TARNFLAW_IMAGE, slot, &place, &owner);
+        differ += tarnflaw_owner(other, TARNFLAW_IMAGE, slot, &place, &has) != TARNFLAW_ACCEPTED || has != owner;
+        for (id = 0; id < 3; id++) {
+            tarnflaw_standing(image, TARNFLAW_IMAGE, id, slot, &place, &shortfall, &slices);
+            differ += tarnflaw_standing(other, TARNFLAW_IMAGE, id, slot, &place, &owed, &counted) != TARNFLAW_ACCEPTED || owed != shortfall;
+            differ += slot > base && slices - counted != less[id];
+            less[id] = slices - counted;
+        }
+    }
+    printf("carried over: %u differ from slot %u on; slices less by %u, %u and %u\n", differ, (unsigned)base, (unsigned)less[0], (unsigned)less[1],
+           (unsigned)less[2]);
+}
+
+/* Tries an image of versions 1 to 4, which is the first bytes of case B's, as it is and carried over; and one whose base is above the last slot. */
+static void show_old(void)
+{
+    static const uint8_t late[] = { 0, 0, 0xff, 0xff, 0xff, 0xff, 0xff, 0xff }, behind[] = { 0, 1, 0, 0, 0, 0, 0, 0 };
+    uint8_t b[TARNFLAW_IMAGE], old[OLD_IMAGE], to[TARNFLAW_IMAGE], changed[TARNFLAW_IMAGE], answer[TARNFLAW_AREA];
+    uint8_t number;
+
+    memcpy(b, image, TARNFLAW_IMAGE);
+    memcpy(old, image, OLD_IMAGE);
+    number = tarnflaw_owner(old, OLD_IMAGE, 7, &place, &owner);
+    printf("an image of version 4: %u %s,", number, says(number));
+    number = tarnflaw_empty(old, OLD_IMAGE);
+    printf(" empty of it %u %s, %s\n", number, says(number), memcmp(old, image, OLD_IMAGE) == 0 ? "as it was" : "changed");
+
+    carry_over(to, old);
+    number = tarnflaw_owner(to, TARNFLAW_IMAGE, 6, &place, &owner);
+    printf("carried over, slot 6: %u %s;", number, says(number));
+    number = tarnflaw_owner(to, TARNFLAW_IMAGE, 7, &place, &owner);
+    printf(" slot 7: %u %s, owner %u\n", number, says(number), owner);
+    compare_from(7, to);
+    change_of("what is there, at slot 8, carried over", to, there_8, sizeof there_8);
+    memcpy(changed, image, TARNFLAW_IMAGE);
+    memcpy(answer, area, TARNFLAW_AREA);
+    change_of("what is there, at slot 8", b, there_8, sizeof there_8);
+    printf("carried over: %s image, %s answer\n", memcmp(changed, image, TARNFLAW_IMAGE) == 0 ? "the same" : "another",
+           memcmp(answer, area, TARNFLAW_AREA) == 0 ? "the same" : "another");
+
+    memcpy(image, b, TARNFLAW_IMAGE);
+    memcpy(image, late, 8);
+    memcpy(image + 73, behind, 8);
+    number = tarnflaw_owner(image, TARNFLAW_IMAGE, TARNFLAW_LAST_SLOT, &place, &owner);
+    printf("with its base above the last slot: %u %s,", number, says(number));
+    carry_over(to, image);
+    number = tarnflaw_owner(to, TARNFLAW_IMAGE, TARNFLAW_LAST_SLOT, &place, &owner);
+    printf(" carried over %u %s\n", number, says(number));
+    memcpy(image, b, TARNFLAW_IMAGE);
 }
 
 #define ROOM 300    /* the bytes that calls without an image may write to, filled before each */
@@ -393,31 +512,31 @@ static void show_empty(void)
 
 int main(void)
 {
-    uint8_t older[TARNFLAW_IMAGE], answer[TARNFLAW_AREA];
+    uint8_t answer[TARNFLAW_AREA];
     size_t size;
 
     printf("version %d, images since version %d\n", TARNFLAW_VERSION, TARNFLAW_IMAGE_VERSION);
     show_empty();
     CHANGE("A", case_a);
     CHANGE("C", case_c);
-    memcpy(older, image, TARNFLAW_IMAGE);
+    show_torn();
     show_record(case_b, sizeof case_b);
     size = CHANGE("B", case_b);
     memcpy(answer, area, size);
     show_record(answer, size);
     show_image();
-    show_torn(older);
     refusals();
     show_short();
     show_order();
+    show_standing();
     show_reading(answer, size);
     show_writing();
-    standing(2, 8, TARNFLAW_IMAGE);
-    standing(0, 7, TARNFLAW_IMAGE);
     show_damage();
-    image[86] = 0;
-    printf("byte 86 at 0: ");
-    standing(0, 7, TARNFLAW_IMAGE);
+    damaged(276, 0, 1, 6);
+    damaged(276, 193, 1, 6);
+    damaged(86, 0, 0, 7);
+    show_other_bound();
+    show_old();
     tarnflaw_empty(image, TARNFLAW_IMAGE);
     longest();
     return 0;
