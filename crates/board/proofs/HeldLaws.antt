@@ -1,12 +1,13 @@
--- What an image holds, as it is read: the owners one by one, the entries one by one, a number of two bytes, the whole timetable. Assumes nothing.
-use lib.ListN.{drop, getD, length, length-drop, replicate, set, take}
+-- What an image holds, as it is read: the owners one by one, the starts one by one, a number of two bytes, the whole timetable. Assumes nothing.
+use lib.ListN.{drop, getD, length, length-drop, length-replicate, replicate, set, take}
 use lib.Seq.{getD-drop, length-take-le, sets}
 use mathlib.Core.List.{List}
-use mathlib.Core.Path.{_≡_, sym, ap, _∙_}
+use mathlib.Core.Path.{_≡_, refl, sym, ap, _∙_}
 use native.Mathlib.Nat.{zero-add}
 use native.Mathlib.Omega.{arith}
-use Prim.Native.Nat.{ℕ, _+_, _<_}
-use Rattle.board.specs.Image.{BASE-AT, IMAGE, LENGTH-AT, OWNERS-AT, entriesAt, timetableAt}
+use Prim.Native.Nat.{ℕ, _+_, _*_, _<_}
+use Rattle.board.proofs.StoreLaws.{rising-length, rising-next}
+use Rattle.board.specs.Image.{BASE-AT, IMAGE, LENGTH-AT, OWNERS-AT, START, STARTS-AT, entriesAt, startAt, startsAt, timetableAt}
 use Rattle.records.proofs.SetsLaws.{sets-all, sets-next}
 use Rattle.records.specs.Request.{numberAt}
 use Rattle.slots.specs.Clocks.{coreSlot}
@@ -34,9 +35,18 @@ pub owners-all : (image owners : List ℕ) (n : ℕ) → length image ≡ IMAGE 
 owners-all image owners n len h e =
     (rw h at e) ∙ sets-all (replicate LONGEST 0) (take LONGEST (drop OWNERS-AT image)) (length-take-le LONGEST (drop OWNERS-AT image) (omega (arith, length-drop OWNERS-AT image)))
 
+module _ (image starts : List ℕ) (n : ℕ) (e : starts ≡ sets (replicate IDS 0) 0 (startsAt image n)) where
+  -- One start more.
+  pub starts-next : (v : ℕ) → v ≡ startAt image (STARTS-AT + START * n) → set starts n v ≡ sets (replicate IDS 0) 0 (startsAt image (n + 1))
+  starts-next v p = rising-next _ 1 (λ i. refl) (replicate IDS 0) starts (set starts n v) 0 n n (omega arith) e (ap (set starts n) p)
+
+  -- All starts.
+  pub starts-all : n ≡ IDS → starts ≡ startsAt image IDS
+  starts-all h = (rw h at e) ∙ sets-all (replicate IDS 0) (startsAt image IDS) (rising-length _ 1 (λ i. refl) IDS ∙ sym (length-replicate {A = ℕ} IDS 0))
+
 -- The fields are the timetable.
-pub held : (image owners : List ℕ) (es : List Entry) (a b : ℕ) → a ≡ numberAt image 0 8 → owners ≡ take LONGEST (drop OWNERS-AT image) → b ≡ numberAt image BASE-AT 8
-    → es ≡ entriesAt image IDS
-    → _≡_ {A = Timetable} (record { request = coreSlot a; length = getD image LENGTH-AT 0; owners = owners; base = coreSlot b; entries = es }) (timetableAt image)
+pub held : (image owners starts : List ℕ) (es : List Entry) (a b : ℕ) → a ≡ numberAt image 0 8 → owners ≡ take LONGEST (drop OWNERS-AT image) → b ≡ numberAt image BASE-AT 8
+    → es ≡ entriesAt image IDS → starts ≡ startsAt image IDS
+    → _≡_ {A = Timetable} (record { request = coreSlot a; length = getD image LENGTH-AT 0; owners = owners; base = coreSlot b; entries = es; starts = starts }) (timetableAt image)
 unfolding timetableAt
-held image owners es a b p q r s = rw (p, q, r, s)
+held image owners starts es a b p q r s u = rw (p, q, r, s, u)

@@ -11,7 +11,7 @@ use Rattle.board.proofs.BoardLaws.{after-accepted, after-refused, answe
 use Rattle.board.proofs.ReadBack.{read-back}
 use Rattle.board.proofs.StoreLaws.{image-length}
 use Rattle.board.specs.Image.{Fits, imageAfter, imageAnswer, imageOf, keptImage}
-use Rattle.change.proofs.Answers.{accepted-continues, accepted-owners}
+use Rattle.change.proofs.Answers.{accepted-continues, accepted-owners, accepted-starts}
 use Rattle.change.proofs.Histories.{sent-accepted, sent-refused}
 use Rattle.change.specs.Change.{answer}
 use Rattle.change.specs.declared.Answer.{Answer}
@@ -23,34 +23,38 @@ use Rattle.timetable.proofs.Ranges.{period-le}
 use Rattle.timetable.proofs.Sound.{Sound, sound-from}
 use Rattle.timetable.specs.declared.Timetable.{Timetable}
 use Rattle.timetable.specs.History.{History, present}
-use Rattle.timetable.specs.Timetable.{emptyTimetable, entryOf, isListed, noEntry}
+use Rattle.timetable.specs.Timetable.{emptyTimetable, entryOf, isListed, noEntry, startOf}
 
 -- A sound timetable fits.
-sound-fits : (t : Timetable) → Sound t → length (t .owners) ≡ LONGEST → length (t .entries) ≡ IDS → Fits t
-sound-fits t s o n = record {
+sound-fits : (t : Timetable) → Sound t → length (t .owners) ≡ LONGEST → length (t .entries) ≡ IDS → length (t .starts) ≡ IDS → Fits t
+sound-fits t s o n m = record {
   owners = o;
   entries = n;
+  starts = m;
   request = omega (arith, s .request);
   base = omega (arith, s .request, s .size, s .base);
   period = λ i h. small i h (isListed (entryOf (t .entries) i)) refl .0;
   shortfall = λ i h. small i h (isListed (entryOf (t .entries) i)) refl .1;
+  start = λ i h. small i h (isListed (entryOf (t .entries) i)) refl .2;
 }
   where
     small : (i : ℕ) → i < IDS → (b : Bool) → isListed (entryOf (t .entries) i) ≡ b
-        → (entryOf (t .entries) i .period < 2 ^ 16) × (entryOf (t .entries) i .shortfall < 2 ^ 16)
-    small i h true l = let r = s .ranged .listed i h l in (omega (arith, period-le _ (r .period)), omega (arith, r .kept, r .bound-high))
-    small i h false l = rw (s .ranged .blank i h l) (omega arith, omega arith)
+        → (entryOf (t .entries) i .period < 2 ^ 16) × (entryOf (t .entries) i .shortfall < 2 ^ 16) × (startOf t i < 2 ^ 16)
+    small i h true l =
+        let r = s .ranged .listed i h l in
+        (omega (arith, period-le _ (r .period)), omega (arith, r .kept, r .bound-high), omega (arith, s .start-kept i h l, r .bound-high))
+    small i h false l = rw (s .ranged .blank i h l, s .start-zero i h l) (omega arith, omega arith, omega arith)
 
 module _ (t : Timetable) (s : List ℕ) (area : ℕ) where
   -- The timetable of an accepted request fits.
   pub accepted-fits : answer t s area .number ≡ ACCEPTED → Fits (answer t s area .timetable)
-  accepted-fits e = let c = accepted-continues t s area e in sound-fits _ (c .sound) (accepted-owners t s area e) (c .shape)
+  accepted-fits e = let c = accepted-continues t s area e in sound-fits _ (c .sound) (accepted-owners t s area e) (c .shape) (accepted-starts t s area e)
 
 -- The timetable in force fits.
 present-fits : (qs : List Sent) → Fits (present (historyOf qs))
 unfolding historyOf present
 present-fits [] =
-    sound-fits emptyTimetable (sound-from emptyTimetable empty-sound) (length-replicate {A = ℕ} LONGEST 0) (length-replicate IDS noEntry)
+    sound-fits emptyTimetable (sound-from emptyTimetable empty-sound) (length-replicate {A = ℕ} LONGEST 0) (length-replicate IDS noEntry) (length-replicate {A = ℕ} IDS 0)
 present-fits (q ∷ qs) = at (eqb (answer t (q .bytes) (q .area) .number) ACCEPTED) refl (present-fits qs)
   where
     h : History

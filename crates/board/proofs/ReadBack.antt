@@ -1,14 +1,15 @@
 -- Reading what was written gives it back: each field stands where the one before ends. Assumes nothing.
 use lib.ListN.{drop, getD, length, length-append, length-replicate, replicate, take}
-use lib.Seq.{drop-append-le, drop-at, drop-drop, ext-getD, getD-at, getD-drop, take-at}
+use lib.Seq.{drop-at, drop-drop, ext-getD, getD-at, getD-drop, take-all, take-at, take-suc}
 use mathlib.Core.List.{List, [], _∷_, _++_, append-assoc, append-nil}
-use mathlib.Core.Path.{_≡_, sym, ap, _∙_}
-use native.Mathlib.Decide.{ℕ-discrete}
+use mathlib.Core.Path.{_≡_, refl, sym, ap, _∙_}
 use native.Mathlib.Omega.{arith}
-use Prim.Native.Nat.{ℕ, zero, suc, _+_, _*_, _^_, _<_}
-use Rattle.board.proofs.StoreLaws.{entries-length}
-use Rattle.board.specs.Image.{BASE-AT, ENTRIES-AT, ENTRY, Fits, LENGTH-AT, OWNERS-AT, entriesAt, entriesBytes, entryAt, entryBytes, imageOf, timetableAt}
+use Prim.Native.Nat.{ℕ, zero, suc, _+_, _*_, _^_, _≤_, _<_}
+use Rattle.board.proofs.StoreLaws.{entries-length, entry-length, rising-stands, start-length}
+use Rattle.board.specs.Image.{BASE-AT, ENTRIES-AT, ENTRY, Fits, LENGTH-AT, OWNERS-AT, START, STARTS-AT, entriesAt, entriesBytes, entryAt, entryBytes, imageOf, startAt, startsAt, startsBytes, timetableAt}
 use Rattle.records.proofs.FieldStands.{number-length, number-stands}
+use Rattle.records.proofs.RisingLaws.{rising-same}
+use Rattle.records.specs.Answer.{rising}
 use Rattle.records.specs.Request.{numberAt}
 use Rattle.records.specs.Written.{numberBytes}
 use Rattle.slots.specs.Clocks.{coreSlot}
@@ -16,7 +17,7 @@ use Rattle.slots.specs.Limits.{IDS, LONGEST}
 use Rattle.timetable.proofs.Entries.{each-at, length-each}
 use Rattle.timetable.specs.declared.Entry.{Entry}
 use Rattle.timetable.specs.declared.Timetable.{Timetable}
-use Rattle.timetable.specs.Timetable.{entryOf, noEntry}
+use Rattle.timetable.specs.Timetable.{entryOf, noEntry, startOf}
 
 module _ (s : List ℕ) where
   -- There are as many entries as ids.
@@ -39,22 +40,11 @@ module _ (s : List ℕ) where
       number-stands s (at + 4) 2 (e .shortfall) rest (omega arith) (sym (drop-drop 4 at s) ∙ ap (λ (z : List ℕ). drop 4 z) d) in
       λ i. record { period = period i; offset = offset i; bound = bound i; shortfall = shortfall i }
 
--- The six bytes of an id stand behind those of the lower ids.
-entry-from : (es : List Entry) (n i : ℕ) → i < n → (rest : List ℕ) × (drop (ENTRY * i) (entriesBytes es n) ≡ entryBytes (entryOf es i) ++ rest)
-unfolding entriesBytes
-entry-from es zero i h = absurd (omega arith)
-entry-from es (suc n) i h = by (ℕ-discrete i n) (entry-from es n i)
-  where
-    by : Dec (i ≡ n) → (i < n → (rest : List ℕ) × (drop (ENTRY * i) (entriesBytes es n) ≡ entryBytes (entryOf es i) ++ rest))
-        → (rest : List ℕ) × (drop (ENTRY * i) (entriesBytes es n ++ entryBytes (entryOf es n)) ≡ entryBytes (entryOf es i) ++ rest)
-    by (yes q) r = ([], rw q (drop-at (entriesBytes es n) (entryBytes (entryOf es n)) (ENTRY * n) (entries-length es n) ∙ sym (append-nil (entryBytes (entryOf es n)))))
-    by (no q) r =
-        let w = r (omega arith) in (
-          w .0 ++ entryBytes (entryOf es n),
-          drop-append-le (ENTRY * i) (entriesBytes es n) (entryBytes (entryOf es n)) (omega (arith, entries-length es n))
-              ∙ ap (λ (z : List ℕ). z ++ entryBytes (entryOf es n)) (w .1)
-              ∙ append-assoc (entryBytes (entryOf es i)) (w .0) (entryBytes (entryOf es n)),
-        )
+-- A list is its elements, one behind the other.
+rising-take : (l : List ℕ) (n : ℕ) → n ≤ length l → rising (λ i. getD l i 0 ∷ []) n ≡ take n l
+unfolding rising
+rising-take l zero h = refl
+rising-take l (suc n) h = ap (λ (z : List ℕ). z ++ getD l n 0 ∷ []) (rising-take l n (omega arith)) ∙ sym (take-suc l n 0 (omega arith))
 
 -- A timetable is read back from its image.
 pub read-back : (t : Timetable) → Fits t → timetableAt (imageOf t) ≡ t
@@ -65,6 +55,7 @@ read-back t f = λ i. record {
   owners = owners i;
   base = coreSlot (base i);
   entries = entries i;
+  starts = starts i;
 }
   where
     s : List ℕ
@@ -79,7 +70,10 @@ read-back t f = λ i. record {
     es : List ℕ
     es = entriesBytes (t .entries) IDS
 
-    -- what stands before the owners, the base and the entries
+    ss : List ℕ
+    ss = startsBytes (t .starts) IDS
+
+    -- what stands before the owners, the base, the entries and the starts
     two : List ℕ
     two = r ++ t .length ∷ []
 
@@ -98,42 +92,61 @@ read-back t f = λ i. record {
     four-length : length four ≡ ENTRIES-AT
     four-length = simp length-append (omega (arith, number-length (t .request .0) 8, f .owners, number-length (t .base .0) 8))
 
-    from-start : s ≡ r ++ (t .length ∷ t .owners ++ b ++ es)
+    five : List ℕ
+    five = four ++ es
+
+    five-length : length five ≡ STARTS-AT
+    five-length = length-append four es ∙ omega (arith, four-length, entries-length (t .entries) IDS)
+
+    from-start : s ≡ r ++ (t .length ∷ t .owners ++ b ++ es ++ ss)
     from-start = simp append-assoc
 
-    from-owners : s ≡ two ++ (t .owners ++ (b ++ es))
+    from-owners : s ≡ two ++ (t .owners ++ (b ++ es ++ ss))
     from-owners = simp append-assoc
 
-    from-base : s ≡ three ++ (b ++ es)
+    from-base : s ≡ three ++ (b ++ (es ++ ss))
     from-base = simp append-assoc
 
+    from-entries : s ≡ four ++ (es ++ ss)
+    from-entries = simp append-assoc
+
+    from-starts : s ≡ five ++ (ss ++ [])
+    from-starts = simp (append-assoc, append-nil)
+
     request : numberAt s 0 8 ≡ t .request .0
-    request = number-stands s 0 8 (t .request .0) (t .length ∷ t .owners ++ b ++ es) (omega (arith, f .request)) from-start
+    request = number-stands s 0 8 (t .request .0) (t .length ∷ t .owners ++ b ++ es ++ ss) (omega (arith, f .request)) from-start
 
     size : getD s LENGTH-AT 0 ≡ t .length
-    size = ap (λ (z : List ℕ). getD z LENGTH-AT 0) from-start ∙ getD-at r (t .length) (t .owners ++ b ++ es) 0 LENGTH-AT (number-length (t .request .0) 8)
+    size = ap (λ (z : List ℕ). getD z LENGTH-AT 0) from-start ∙ getD-at r (t .length) (t .owners ++ b ++ es ++ ss) 0 LENGTH-AT (number-length (t .request .0) 8)
 
     owners : take LONGEST (drop OWNERS-AT s) ≡ t .owners
     owners =
         ap (λ (z : List ℕ). take LONGEST (drop OWNERS-AT z)) from-owners
-        ∙ ap (take LONGEST) (drop-at two (t .owners ++ (b ++ es)) OWNERS-AT two-length)
-        ∙ take-at (t .owners) (b ++ es) LONGEST (f .owners)
+        ∙ ap (take LONGEST) (drop-at two (t .owners ++ (b ++ es ++ ss)) OWNERS-AT two-length)
+        ∙ take-at (t .owners) (b ++ es ++ ss) LONGEST (f .owners)
 
     base : numberAt s BASE-AT 8 ≡ t .base .0
     base =
-        number-stands s BASE-AT 8 (t .base .0) es (omega (arith, f .base))
-        (ap (λ (z : List ℕ). drop BASE-AT z) from-base ∙ drop-at three (b ++ es) BASE-AT three-length)
-
-    from-entries : drop ENTRIES-AT s ≡ es
-    from-entries = drop-at four es ENTRIES-AT four-length
+        number-stands s BASE-AT 8 (t .base .0) (es ++ ss) (omega (arith, f .base))
+        (ap (λ (z : List ℕ). drop BASE-AT z) from-base ∙ drop-at three (b ++ (es ++ ss)) BASE-AT three-length)
 
     entry : (i : ℕ) → i < IDS → entryAt s (ENTRIES-AT + ENTRY * i) ≡ entryOf (t .entries) i
     entry i h =
-        let w = entry-from (t .entries) IDS i h in
-        entry-back s (ENTRIES-AT + ENTRY * i) (entryOf (t .entries) i) (w .0) (f .period i h) (f .shortfall i h)
-        (sym (drop-drop (ENTRY * i) ENTRIES-AT s) ∙ ap (λ (z : List ℕ). drop (ENTRY * i) z) from-entries ∙ w .1)
+        let w = rising-stands _ ENTRY (λ j. entry-length (entryOf (t .entries) j)) s four ss ENTRIES-AT IDS i from-entries four-length h in
+        entry-back s (ENTRIES-AT + ENTRY * i) (entryOf (t .entries) i) (w .0) (f .period i h) (f .shortfall i h) (w .1)
 
     entries : entriesAt s IDS ≡ t .entries
     entries =
         ext-getD noEntry (entriesAt s IDS) (t .entries) (held-length s ∙ sym (f .entries))
         (λ i h. held-at s i (omega (arith, held-length s)) ∙ entry i (omega (arith, held-length s)))
+
+    start : (i : ℕ) → i < IDS → startAt s (STARTS-AT + START * i) ≡ startOf t i
+    start i h =
+        let w = rising-stands _ START (start-length (t .starts)) s five [] STARTS-AT IDS i from-starts five-length h in
+        number-stands s (STARTS-AT + START * i) START (startOf t i) (w .0) (omega (arith, f .start i h)) (w .1)
+
+    starts : startsAt s IDS ≡ t .starts
+    starts =
+        rising-same (λ i. startOf t i ∷ []) _ IDS (λ i h. ap (λ (x : ℕ). x ∷ []) (start i h))
+        ∙ rising-take (t .starts) IDS (omega (arith, f .starts))
+        ∙ take-all IDS (t .starts) (omega (arith, f .starts))

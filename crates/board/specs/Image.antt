@@ -1,10 +1,10 @@
--- docs/RULES.md 10: a timetable as a C program keeps it, an image of 273 bytes, and what the functions in C tell and leave.
+-- docs/RULES.md 10: a timetable as a C program keeps it, an image of 337 bytes, and what the functions in C tell and leave.
 use lib.Dec.{eqb}
 use lib.ListN.{drop, getD, length, replicate, take}
 use mathlib.Core.Bool.{Bool, cond}
 use mathlib.Core.List.{List, [], _∷_, _++_}
 use mathlib.Core.Path.{_≡_}
-use Prim.Native.Nat.{ℕ, zero, suc, _+_, _*_, _^_, _<_}
+use Prim.Native.Nat.{ℕ, _+_, _*_, _^_, _<_}
 use Rattle.change.specs.Change.{answer, recordOf, refuse, written}
 use Rattle.change.specs.Controller.{Sent}
 use Rattle.change.specs.declared.Answer.{Answer}
@@ -12,17 +12,18 @@ use Rattle.change.specs.declared.OwnerAnswer.{OwnerAnswer}
 use Rattle.change.specs.declared.StandingAnswer.{StandingAnswer}
 use Rattle.change.specs.Queries.{ownerQuery, refuseOwner, refuseStanding, standingQuery}
 use Rattle.numbers.specs.Numbers.{ACCEPTED, NOT-SOUND, refusal}
+use Rattle.records.specs.Answer.{rising}
 use Rattle.records.specs.Request.{numberAt}
 use Rattle.records.specs.Written.{numberBytes}
 use Rattle.slots.specs.Clocks.{coreSlot}
 use Rattle.slots.specs.Limits.{IDS, LONGEST}
 use Rattle.timetable.specs.declared.Entry.{Entry}
 use Rattle.timetable.specs.declared.Timetable.{Timetable}
-use Rattle.timetable.specs.Timetable.{each, emptyTimetable, entryOf, noEntry}
+use Rattle.timetable.specs.Timetable.{each, emptyTimetable, entryOf, noEntry, startOf}
 
 -- An image has this many bytes.
 abbrev pub IMAGE : ℕ
-IMAGE = 273
+IMAGE = 337
 
 -- The transition's length stands here, behind the request slot.
 abbrev pub LENGTH-AT : ℕ
@@ -44,6 +45,14 @@ ENTRIES-AT = 81
 abbrev pub ENTRY : ℕ
 ENTRY = 6
 
+-- The starts stand from here on.
+abbrev pub STARTS-AT : ℕ
+STARTS-AT = 273
+
+-- A start has this many bytes.
+abbrev pub START : ℕ
+START = 2
+
 -- Whether bytes are an image, by their number.
 abbrev pub isImage : List ℕ → Bool
 isImage image = eqb (length image) IMAGE
@@ -61,7 +70,15 @@ entryAt image at = record {
 abbrev pub entriesAt : List ℕ → ℕ → List Entry
 entriesAt image n = each (λ i e. entryAt image (ENTRIES-AT + ENTRY * i)) n (replicate IDS noEntry)
 
--- The timetable that an image holds: request slot (8), length, owners (64), base (8), entries.
+-- The start that the two bytes from a place hold.
+abbrev pub startAt : List ℕ → ℕ → ℕ
+startAt image at = numberAt image at START
+
+-- The starts of the ids below n, one behind the other.
+abbrev pub startsAt : List ℕ → ℕ → List ℕ
+startsAt image n = rising (λ i. startAt image (STARTS-AT + START * i) ∷ []) n
+
+-- The timetable that an image holds: request slot (8), length, owners (64), base (8), entries, starts.
 unfoldable pub timetableAt : List ℕ → Timetable
 timetableAt image = record {
   request = coreSlot (numberAt image 0 8);
@@ -69,6 +86,7 @@ timetableAt image = record {
   owners = take LONGEST (drop OWNERS-AT image);
   base = coreSlot (numberAt image BASE-AT 8);
   entries = entriesAt image IDS;
+  starts = startsAt image IDS;
 }
 
 -- The six bytes of an entry.
@@ -76,14 +94,17 @@ unfoldable pub entryBytes : Entry → List ℕ
 entryBytes e = numberBytes (e .period) 2 ++ (e .offset ∷ e .bound ∷ numberBytes (e .shortfall) 2)
 
 -- The bytes of the entries of the ids below n.
-unfoldable pub entriesBytes : List Entry → ℕ → List ℕ
-entriesBytes entries zero = []
-entriesBytes entries (suc n) = entriesBytes entries n ++ entryBytes (entryOf entries n)
+abbrev pub entriesBytes : List Entry → ℕ → List ℕ
+entriesBytes entries n = rising (λ i. entryBytes (entryOf entries i)) n
+
+-- The bytes of the starts of the ids below n.
+abbrev pub startsBytes : List ℕ → ℕ → List ℕ
+startsBytes starts n = rising (λ i. numberBytes (getD starts i 0) START) n
 
 -- The image of a timetable.
 unfoldable pub imageOf : Timetable → List ℕ
 imageOf t =
-    numberBytes (t .request .0) 8 ++ (t .length ∷ []) ++ t .owners ++ numberBytes (t .base .0) 8 ++ entriesBytes (t .entries) IDS
+    numberBytes (t .request .0) 8 ++ (t .length ∷ []) ++ t .owners ++ numberBytes (t .base .0) 8 ++ entriesBytes (t .entries) IDS ++ startsBytes (t .starts) IDS
 
 -- Making the image of the empty timetable: bytes that are no image are refused as not sound.
 unfoldable pub emptyNumber : List ℕ → ℕ
@@ -142,10 +163,12 @@ pub record StandingTold (answer : StandingAnswer) (number place shortfall slices
 pub record Fits (t : Timetable) : Type 0 where
   pub owners : length (t .owners) ≡ LONGEST
   pub entries : length (t .entries) ≡ IDS
+  pub starts : length (t .starts) ≡ IDS
   pub request : t .request .0 < 2 ^ 64
   pub base : t .base .0 < 2 ^ 64
   pub period : (i : ℕ) → i < IDS → entryOf (t .entries) i .period < 2 ^ 16
   pub shortfall : (i : ℕ) → i < IDS → entryOf (t .entries) i .shortfall < 2 ^ 16
+  pub start : (i : ℕ) → i < IDS → startOf t i < 2 ^ 16
 
 -- The image that a C program keeps, from that of the empty timetable on, after any requests, the last request first.
 unfoldable pub keptImage : List Sent → List ℕ

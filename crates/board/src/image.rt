@@ -3,7 +3,7 @@ ghost use lib.ListN.{drop, length, take};
 ghost use lib.Seq.{sets};
 ghost use mathlib.Core.Path.{_≡_};
 ghost use Prim.Native.Nat.{_+_, _≤_};
-ghost use Rattle.board.specs.Image.{ENTRIES-AT, ENTRY, IMAGE, OWNERS-AT, entriesAt, entriesBytes, entryAt, entryBytes, imageOf, timetableAt};
+ghost use Rattle.board.specs.Image.{ENTRIES-AT, ENTRY, IMAGE, OWNERS-AT, STARTS-AT, entriesAt, entriesBytes, entryAt, entryBytes, imageOf, startsAt, startsBytes, timetableAt};
 ghost use Rattle.records.specs.Request.{numberAt};
 ghost use Rattle.slots.specs.Limits.{IDS, LONGEST};
 use records::number_at;
@@ -31,6 +31,12 @@ const ENTRIES_AT: usize = 81;
 // An entry has this many bytes.
 const ENTRY: usize = 6;
 
+// The place of the starts.
+const STARTS_AT: usize = 273;
+
+// A start has this many bytes.
+const START: usize = 2;
+
 // The timetable that an image holds.
 pub fn timetable_of(image: &[u8]) -> Timetable
     requires { ⌜ length (now image) ≡ IMAGE ⌝ }
@@ -38,12 +44,14 @@ pub fn timetable_of(image: &[u8]) -> Timetable
 {
     let owners = owners_of(image);
     let entries = entries_of(image);
+    let starts = starts_of(image);
     Timetable {
         request: CoreSlot(number_at(image, 0, 8)),
         length: image[LENGTH_AT],
         owners,
         base: CoreSlot(number_at(image, BASE_AT, 8)),
         entries,
+        starts,
     }
 }
 
@@ -89,6 +97,20 @@ fn entry_of(image: &[u8], at: usize) -> Entry
     }
 }
 
+// The starts that an image holds.
+fn starts_of(image: &[u8]) -> [u16; Timetable::IDS]
+    requires { ⌜ length (now image) ≡ IMAGE ⌝ }
+    ensures { λ r. ⌜ r ≡ startsAt (now (image .entry)) IDS ⌝ }
+{
+    let mut starts = [0; Timetable::IDS];
+    let mut id: usize = 0;
+    while id < Timetable::IDS {
+        starts[id] = short_at(image, STARTS_AT + START * id);
+        id += 1;
+    }
+    starts
+}
+
 // The number that two bytes from a place write.
 fn short_at(image: &[u8], at: usize) -> u16
     requires { ⌜ at + 2 ≤ length (now image) ⌝ }
@@ -104,11 +126,13 @@ pub fn put_image(image: &mut [u8], t: Timetable)
 {
     let owners = t.owners;
     let entries = t.entries;
+    let starts = t.starts;
     put_number(image, 0, 8, t.request.0);
     image[LENGTH_AT] = t.length;
     put_owners(image, OWNERS_AT, OWNERS, owners);
     put_number(image, BASE_AT, 8, t.base.0);
     put_entries(image, entries);
+    put_starts(image, starts);
 }
 
 // Writes the entries, one behind the other.
@@ -133,4 +157,16 @@ fn put_entry(image: &mut [u8], at: usize, e: Entry)
     image[at + 2] = e.offset;
     image[at + 3] = e.bound;
     put_number(image, at + 4, 2, e.shortfall as u64);
+}
+
+// Writes the starts, one behind the other.
+fn put_starts(image: &mut [u8], starts: [u16; Timetable::IDS])
+    requires { ⌜ length (now image) ≡ IMAGE ⌝ }
+    ensures { λ _. ⌜ now (image .exit) ≡ sets (now (image .entry)) STARTS-AT (startsBytes starts IDS) ⌝ }
+{
+    let mut id: usize = 0;
+    while id < Timetable::IDS {
+        put_number(image, STARTS_AT + START * id, START, starts[id] as u64);
+        id += 1;
+    }
 }

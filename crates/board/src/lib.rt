@@ -1,4 +1,4 @@
-// The library as a C program on the board calls it. A timetable is an image of 273 bytes, and each function returns a number of docs/RULES.md 7.1.
+// The library as a C program on the board calls it. A timetable is an image of 337 bytes, and each function returns a number of docs/RULES.md 7.1.
 ghost use mathlib.Core.Path.{_≡_};
 ghost use Rattle.archive.specs.AnswerRead.{fieldAt};
 ghost use Rattle.board.specs.Archive.{AnswerTold, FieldTold, RequestTold};
@@ -16,7 +16,7 @@ mod image; // image.rt: reading and writing an image
 mod schedule; // schedule.rt: writing what an answer says
 
 // An image has this many bytes. Fewer or more are no sound timetable.
-pub const IMAGE: usize = 273;
+pub const IMAGE: usize = 337;
 
 // A schedule has this many bytes. An area of fewer is too small to read an answer into.
 pub const SCHEDULE: usize = 129;

@@ -10,7 +10,7 @@ use native.Mathlib.Omega.{arith}
 use Prim.Native.Nat.{ℕ, suc, _≤_, _<_}
 use Rattle.change.proofs.Accept.{found-continues}
 use Rattle.change.proofs.Stages.{stages}
-use Rattle.change.proofs.Start.{start-fit}
+use Rattle.change.proofs.Start.{start-count, start-fit}
 use Rattle.change.specs.Change.{numberOf, placeOf, newTimetable, timetableOf, startPlan, startsOf, searchOf, answerOf, refuse, answerTo, answer, recordOf}
 use Rattle.change.specs.declared.Answer.{Answer}
 use Rattle.change.specs.Refused.{not-sound, sound, small-area, enough, bad-field, whole, too-early, in-time, overfull, fits, Behind, behind, keep-up, StagesSay}
@@ -121,24 +121,31 @@ module _ (t : Timetable) (s : List ℕ) (area : ℕ) where
           rw (e, answerTo)
           (searched e (admitted t s area (said Passed e)) _ (search-ends (readRequest s .request .limit) 0 (startPlan t (readRequest s .request))))
 
-  -- An accepted request's timetable continues the one before.
-  pub accepted-continues : answer t s area .number ≡ ACCEPTED → Continues t (answer t s area .timetable)
-  accepted-continues = at (answer t s area) gets
+  -- What a new timetable has, at the length found and with the plan placed, that of an accepted request has.
+  accepted-has : (P : Timetable → Type 0)
+      → ((k : ℕ) → k ≤ r .limit → PassedFirst k 0 (startPlan t r) → (p : Plan) → reach (startPlan t r) k ≡ some p
+      → (ps : List Place) → placement (p .entries) ≡ some ps → Admitted t r area → P (newTimetable r (startsOf t r) k (placed p ps)))
+      → answer t s area .number ≡ ACCEPTED → P (answer t s area .timetable)
+  unfolding r
+  accepted-has P has = at (answer t s area) gets
     where
-      at : (a : Answer) → Gets t s area a → a .number ≡ ACCEPTED → Continues t (a .timetable)
+      at : (a : Answer) → Gets t s area a → a .number ≡ ACCEPTED → P (a .timetable)
       at a (refused q e l h) z = absurd (omega arith)
-      at a (accepted e p k l b q h ps f) z = found-continues t (readRequest s .request) (p .sound .ranged) (p .range) (p .later) (p .fine) k l b q h ps f
+      at a (accepted e p k l b q h ps f) z = has k l b q h ps f p
       at a (no-slot e p k l b q h f) z = absurd (omega arith)
       at a (no-length e p b) z = absurd (omega arith)
 
-  -- The timetable of an accepted request has 64 owners.
+  -- It continues the one before.
+  pub accepted-continues : answer t s area .number ≡ ACCEPTED → Continues t (answer t s area .timetable)
+  accepted-continues = accepted-has (Continues t) (λ k l b q h ps f p. found-continues t r (p .sound .ranged) (p .range) (p .later) (p .fine) k l b q h ps f)
+
+  -- It has 64 owners.
   pub accepted-owners : answer t s area .number ≡ ACCEPTED → length (answer t s area .timetable .owners) ≡ LONGEST
   unfolding placed
-  accepted-owners = at (answer t s area) gets
-    where
-      at : (a : Answer) → Gets t s area a → a .number ≡ ACCEPTED → length (a .timetable .owners) ≡ LONGEST
-      at a (refused q e l h) z = absurd (omega arith)
-      at a (accepted e p k l b q h ps f) z =
-          reach-fit k 0 (startPlan t (readRequest s .request)) q (admitted-fit t (readRequest s .request) area p) (omega (arith, p .range .limit)) h .places
-      at a (no-slot e p k l b q h f) z = absurd (omega arith)
-      at a (no-length e p b) z = absurd (omega arith)
+  accepted-owners =
+      accepted-has (λ (x : Timetable). length (x .owners) ≡ LONGEST)
+      (λ k l b q h ps f p. reach-fit k 0 (startPlan t r) q (admitted-fit t r area p) (omega (arith, p .range .limit)) h .places)
+
+  -- It has 32 starts.
+  pub accepted-starts : answer t s area .number ≡ ACCEPTED → length (answer t s area .timetable .starts) ≡ IDS
+  accepted-starts = accepted-has (λ (x : Timetable). length (x .starts) ≡ IDS) (λ k l b q h ps f p. start-count t r)

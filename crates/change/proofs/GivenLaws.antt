@@ -1,6 +1,6 @@
 -- What a request gets is what the rules give: the plan that the search found was reached slot by slot, placed by rule 4, and written. Assumes nothing.
 use borrow.Author.Tests.{le-ltb, lt-ltb}
-use lib.ListN.{length, length-map}
+use lib.ListN.{length}
 use mathlib.Core.Bool.{Bool, true, false}
 use mathlib.Core.List.{List}
 use mathlib.Core.Logic.{_⊎_, inl, inr}
@@ -11,8 +11,8 @@ use native.Mathlib.Omega.{arith}
 use Prim.Native.Nat.{ℕ, suc, _-_, _≤_, _<_}
 use Rattle.change.proofs.Answers.{Gets, Admitted, admitted-fit, accepted, acceptedAs, gets, no-length, no-slot, record-none, refused, said}
 use Rattle.change.proofs.StageSteps.{given-bound, listed-bound, new-bound, short-bound}
-use Rattle.change.proofs.Start.{length-start, start-at, start-of}
-use Rattle.change.specs.Change.{answer, areaAfter, outcome, outcomeOf, recordOf, refuse, shortfallsOf, startPlan, startsOf, written}
+use Rattle.change.proofs.Start.{length-start, start-at, start-count, start-of}
+use Rattle.change.specs.Change.{answer, areaAfter, outcome, outcomeOf, recordOf, refuse, startPlan, written}
 use Rattle.change.specs.declared.Answer.{Answer}
 use Rattle.change.specs.Given.{AsksBound, in-full, as-listed, not-listed, Enters, AtRequest, ByRules, EndsAt, missed, exhausted, Wanting, Gives, early, schedule, wanting}
 use Rattle.change.specs.Stages.{askedBound, entering, startEntries}
@@ -97,7 +97,7 @@ module _ (t : Timetable) (q : Request) (area : ℕ) (pass : Admitted t q area) w
     module _ (ps : List Place) (rule4 : placement (x .entries) ≡ some ps) where
       -- The timetable found is by the rules.
       by-rules : n ≤ q .limit → PassedFirst n 0 plan → ByRules q (plan .entries) (acceptedAs t q n (placed x ps) .timetable)
-      unfolding placed startPlan startsOf shortfallsOf
+      unfolding placed startPlan
       by-rules l b = record {
         slot = refl;
         base = refl;
@@ -109,7 +109,7 @@ module _ (t : Timetable) (q : Request) (area : ℕ) (pass : Admitted t q area) w
         placed = subst (λ (es : List Entry). ByRuleFour es (λ i. entryOf (settle (x .entries) ps) i .offset)) walk
             (rule-four-is (x .entries) (fit-here .ranged) (fit-here .entries) ps rule4);
         count = length-settle (x .entries) ps ∙ fit-here .entries;
-        start-count = length-map (plan .entries) (λ (e : Entry). e .shortfall) ∙ fit .entries;
+        start-count = start-count t q;
         starts = λ i k. start-of t q i;
         kept = λ i k.
             settle-kept (x .entries) (fit-here .ranged) (fit-here .entries) ps rule4 i k

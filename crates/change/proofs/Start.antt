@@ -1,7 +1,7 @@
 -- The plan of length 0 of a request that passed the stages is fit: what was read is in range, and nobody is behind. Assumes nothing.
 use borrow.Author.Tests.{ltb-true}
 use lib.Dec.{ltb}
-use lib.ListN.{getD, length, replicate, length-replicate, getD-replicate, List·getD-eq-default, List·getD-map}
+use lib.ListN.{getD, length, length-map, replicate, length-replicate, getD-replicate, List·getD-eq-default, List·getD-map}
 use mathlib.Core.Bool.{Bool, true, false}
 use mathlib.Core.List.{List}
 use mathlib.Core.Logic.{inl, inr}
@@ -123,6 +123,11 @@ zeros n k = at (decLt k n)
 pub start-of : (t : Timetable) (r : Request) (i : ℕ) → getD (startsOf t r) i 0 ≡ entryOf (startPlan t r .entries) i .shortfall
 unfolding startsOf shortfallsOf
 start-of t r i = List·getD-map (λ (e : Entry). e .shortfall) (startPlan t r .entries) i noEntry
+
+-- There is one for each id.
+pub start-count : (t : Timetable) (r : Request) → length (startsOf t r) ≡ IDS
+unfolding startsOf shortfallsOf startPlan
+start-count t r = length-map (startEntries t (r .slot) (r .asks)) (λ (e : Entry). e .shortfall) ∙ length-start t (r .slot) (r .asks)
 
 -- The plan of length 0 is fit.
 pub start-fit : (t : Timetable) (r : Request) → Ranged (t .entries) → RequestRange r

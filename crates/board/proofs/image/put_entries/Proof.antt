@@ -4,9 +4,11 @@ use lib.Seq.{sets}
 use mathlib.Core.Path.{_≡_, refl, _∙_}
 use native.Mathlib.Omega.{arith}
 use Prim.Native.Nat.{_-_, _≤_}
-use Rattle.board.proofs.StoreLaws.{entries-next}
-use Rattle.board.specs.Image.{ENTRIES-AT, entriesBytes}
+use Rattle.board.proofs.StoreLaws.{entry-length, rising-next}
+use Rattle.board.specs.Image.{ENTRIES-AT, ENTRY, entriesBytes}
+use Rattle.records.specs.Answer.{rising}
 use Rattle.slots.specs.Limits.{IDS}
+use Rattle.timetable.specs.Timetable.{entryOf}
 use Rattle.board.proofs.image.put_entries.Statement.{statement}
 use Rattle.board.proofs.image.put_entries.Tie as tie
 
@@ -17,7 +19,7 @@ abbrev μ-loop : tie.MeasureT-loop
 μ-loop image₀ entries id₀ image id = IDS - id
 
 loop-holds : tie.Need-loop-holds Inv-loop μ-loop
-unfolding entriesBytes
+unfolding rising
 loop-holds c = (omega arith, refl, refl)
 
 mul-e : tie.Need-mul-e Inv-loop μ-loop
@@ -45,8 +47,11 @@ loop-again : tie.Need-loop-again Inv-loop μ-loop
 loop-again c =
     let p = c .before .before .put-entry in
     let l = c .before .before .before .before .before .before .loop in
-    let s = c .before .before .before .before .before .before .before .before in
-    (omega arith, p .kept .0 ∙ l .inv .1, entries-next (s .args .image .now) (l .image) (p .last .0) (s .args .t2) (l .id) (l .inv .2) (p .ensures))
+    let s = c .before .before .before .before .before .before .before .before in (
+      omega arith,
+      p .kept .0 ∙ l .inv .1,
+      rising-next _ ENTRY (λ i. entry-length (entryOf (s .args .t2) i)) (s .args .image .now) (l .image) (p .last .0) ENTRIES-AT _ (l .id) refl (l .inv .2) (p .ensures),
+    )
 
 same-length : tie.Need-same-length Inv-loop μ-loop
 same-length c = c .before .loop .inv .1

@@ -10,20 +10,24 @@ owners-of-requires c κs = search needs
 entries-of-requires : tie.Need-entries-of-requires
 entries-of-requires c κs = search needs
 
+starts-of-requires : tie.Need-starts-of-requires
+starts-of-requires c κs = search needs
+
 number-at-requires : tie.Need-number-at-requires
 number-at-requires c κs = search needs
 
-shared-slice-read-t7 : tie.Need-shared-slice-read-t7
-shared-slice-read-t7 c = search needs
+shared-slice-read-t8 : tie.Need-shared-slice-read-t8
+shared-slice-read-t8 c = search needs
 
 number-at-requires-2 : tie.Need-number-at-requires-2
 number-at-requires-2 c κs = search needs
 
 returns : tie.Need-returns
 returns c =
-    let es = c .before .before .before in
+    let ss = c .before .before .before in
+    let es = ss .before in
     let os = es .before in
-    held (os .before .before .args .image .now) _ _ _ _ (c .before .before .number-at .ensures) (os .owners-of .ensures) (c .number-at2 .ensures) (es .entries-of .ensures)
+    held (os .before .before .args .image .now) _ _ _ _ _ (c .before .before .number-at .ensures) (os .owners-of .ensures) (c .number-at2 .ensures) (es .entries-of .ensures) (ss .starts-of .ensures)
 
 pub timetable-of-spec : {M : Type 1} → statement M
 timetable-of-spec =
@@ -31,7 +35,8 @@ timetable-of-spec =
     (tie.spec
     owners-of-requires
     entries-of-requires
+    starts-of-requires
     number-at-requires
-    shared-slice-read-t7
+    shared-slice-read-t8
     number-at-requires-2
     returns)
