@@ -445,12 +445,12 @@ fn several_changes_in_one_slot() {
     assert_eq!(standing_query(&broken, 1, 7), (1, 0, 0));
 }
 
-/// A probe's timetable, if its image is one.
-fn timetable_in(made: &Made) -> Option<Timetable> {
+/// The image of a change or a query; none in other probes.
+fn image_in(made: &Made) -> Vec<u8> {
     match read_probe(&made.content) {
-        Probe::Change { image, .. } | Probe::Owner { image, .. } => timetable_of(&image),
-        Probe::Standing { image, .. } => timetable_of(&image),
-        _ => None,
+        Probe::Change { image, .. } | Probe::Owner { image, .. } => image,
+        Probe::Standing { image, .. } => image,
+        _ => Vec::new(),
     }
 }
 
@@ -462,11 +462,16 @@ fn starts_at_256_r(timetable: &Timetable) -> bool {
 }
 
 /// The stored stream of probes breaks each clause of the starts and of the walk alone, and sweeps
-/// whole transitions, so often that the wrong programs of docs/RULES.md 12.21 to 12.23 show.
+/// whole transitions, so often that the wrong programs of docs/RULES.md 12.21 to 12.23 show; images
+/// without their starts, or a byte short or long, are in it.
 #[test]
 fn the_stored_stream_has_starts_and_sweeps() {
     let stream: Vec<Made> = Probes::new(1, 20_000).collect();
-    let exact = stream.iter().filter_map(timetable_in).filter(starts_at_256_r).count();
+    let images: Vec<Vec<u8>> = stream.iter().map(image_in).collect();
+    let of_length = |length| images.iter().filter(|image| image.len() == length).count();
+    assert!([273, 336, 338].iter().all(|&length| of_length(length) >= 30));
+    let timetables = images.iter().filter_map(|image| timetable_of(image));
+    let exact = timetables.filter(starts_at_256_r).count();
     let counts = ProbeCounts::of(stream);
     let alone = |clause| {
         let mut origins = counts.origins.iter();
