@@ -228,24 +228,26 @@
  *     ABI             x86-64, System V, 64-bit ELF (readelf -h); code and constants together run at any address, since calls and references are relative
  *                     (objdump -r)
  *     from outside    memcpy memset (nm -u)
- *     data            32 bytes of constants, none writable (objdump -h)
+ *     data            64 bytes of constants, none writable (objdump -h)
  *     instructions    those of the first x86-64 processors, and tzcnt (objdump -d). Processors without BMI1 run tzcnt as bsf, which gives the same
  *                     here: its operand, a period, is never 0 where it is reached, and the flags that it sets are not read
- *     SSE             xmm0 to xmm7, to move, to clear and to pack bytes, in most functions or in what they call; no floating point arithmetic,
- *                     and no x87, MMX or AVX register (objdump -d). Your memcpy and memset may use more
- *     red zone        tarnflaw_empty keeps figures in the 128 bytes below the stack pointer (objdump -d)
+ *     SSE             xmm0 to xmm7, to move, clear, compare, add, pack and unpack whole numbers, in most functions or in what they call; no floating
+ *                     point arithmetic, and no x87, MMX or AVX register (objdump -d). Your memcpy and memset may use more
+ *     red zone        no function keeps figures below the stack pointer (objdump -d)
  *
  * So SSE has to be enabled. Every caller, as the ABI has it, calls with the stack pointer at a multiple of 16: the code moves 16 bytes at a time to
  * and from the stack, and faults otherwise. An interrupt handler that calls it besides saves the SSE registers first, like all that the ABI lets a
- * call lose. A handler that interrupts a call and runs on its stack leaves the 128 bytes below the stack pointer alone.
+ * call lose. A handler that interrupts a call and runs on its stack leaves the 128 bytes below the stack pointer alone, as the ABI has it: your memcpy may
+ * use them.
  *
  * What it takes
  *
- * Measured, not proved, and the worst that was found, not a bound. Stack of a change: 4,895 bytes with the bench's own (71 where it calls nothing);
- * that of the other functions was not measured. Time of a change: 95 to 103 microseconds on a quiet machine, 142 where other work disturbed it; time of
- * a query: 0.5 (docs/BENCHMARKS.md has the machine and the inputs). A later build was timed on a slower machine with an unsteady clock: the worst changes
- * of three runs took 169, 201 and 117 microseconds there (docs/landings/ground.md). Reading an answer took 0.2 microseconds at the worst, and
- * writing a request 0.1 (docs/BENCHMARKS.md). Measure on your board. */
+ * Measured, not proved, and the worst that was found, not a bound. Stack, with that of memcpy and memset (bench/count): of a change 5,551 bytes, of an
+ * owner query 2,207, of a standing query 1,903; that of the other functions was not measured. Times are of version 4. A change took 95 to 103 microseconds
+ * on a quiet machine, 142 where other work disturbed it; a query 0.5 (docs/BENCHMARKS.md has the machine and the inputs). A later build was timed on a
+ * slower machine with an unsteady clock: the worst changes of three runs took 169, 201 and 117 microseconds there (docs/landings/ground.md). Reading an
+ * answer took 0.2 microseconds at the worst, and writing a request 0.1. Since then a query has more to look at: it takes four to nine tenths more
+ * instructions, the most after a long transition, and a change a sixth to a third (docs/landings/CR-04.md). Measure on your board. */
 #ifndef TARNFLAW_H
 #define TARNFLAW_H
 

@@ -6,7 +6,7 @@ use native.Mathlib.Omega.{arith}
 use Prim.Native.Nat.{ℕ, _≤_}
 use Rattle.change.proofs.Answers.{Admitted, admitted, admitted-fit, Gets, refused, accepted, no-slot, no-length, gets, said}
 use Rattle.change.proofs.Stages.{first-tells}
-use Rattle.change.specs.Change.{shortfallsOf, startPlan, startsOf, searchOf, numberOf, placeOf, newTimetable, timetableOf, answerOf, refuse, answerTo, answer}
+use Rattle.change.specs.Change.{startPlan, startsOf, searchOf, numberOf, placeOf, newTimetable, timetableOf, answerOf, refuse, answerTo, answer}
 use Rattle.change.specs.Coded.{Holds, GoesInto}
 use Rattle.change.specs.declared.Answer.{Answer}
 use Rattle.change.specs.Refused.{FirstStages, sound, enough, whole, in-time}
@@ -93,11 +93,6 @@ module _ (t : Timetable) (s : List ℕ) (area : ℕ) (read : ReadRequest) (q : r
     listed-next : verdictBefore t read area ≡ firstOf (stagesListed (plan .entries))
     unfolding verdictBefore startPlan
     listed-next = split-passed (stagesFirst t read area) _ e ∙ sym (ap (λ (x : Plan). firstOf (stagesListed (x .entries))) p)
-
-    -- Its starts.
-    pub starts-are : (starts : List ℕ) → starts ≡ shortfallsOf (plan .entries) → starts ≡ startsOf t (read .request)
-    unfolding startsOf
-    starts-are starts h = h ∙ ap (λ (x : Plan). shortfallsOf (x .entries)) p
 
     pub answer-listed : (r : Refusal) → firstOf (stagesListed (plan .entries)) ≡ Refused r → answer t s area ≡ refuse t r
     unfolding given

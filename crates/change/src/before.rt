@@ -1,10 +1,12 @@
 // The stages before the search, in the order of docs/RULES.md 7.2: an unsound timetable, a small area, the fields, then 6, 7 and 8. The lowest stage wins.
+ghost use lib.ListN.{length};
 ghost use mathlib.Core.Bool.{true, cond};
 ghost use mathlib.Core.Path.{_≡_};
 ghost use Prim.Native.Nat.{_≤_};
-ghost use Rattle.change.specs.Change.{shortfallsOf, startPlan};
+ghost use Rattle.change.specs.Change.{startPlan, startsOf};
 ghost use Rattle.change.specs.Stages.{askedBound, boundBefore, entering, isBehind, stageOverfull, stageBehind, stagesFirst, stagesListed};
 ghost use Rattle.numbers.specs.Chain.{firstOf};
+ghost use Rattle.slots.specs.Limits.{IDS};
 ghost use Rattle.timetable.specs.Sound.{entryInRange, isSound};
 ghost use Rattle.timetable.specs.Timetable.{isListed, shortfallAfter};
 use numbers::Refusal;
@@ -38,11 +40,10 @@ pub fn verdict_first(t: Timetable, read: ReadRequest, area: usize) -> Verdict
     Verdict::Passed
 }
 
-// The plan of length 0: no transition slot, and each id's entry with its shortfall at the request slot.
-pub fn start_plan(t: Timetable, asked: Request) -> Plan
-    requires { ⌜ isSound t ≡ true ⌝ }
-    requires { ⌜ t .base .0 ≤ asked .slot .0 ⌝ }
-    ensures { λ r. ⌜ r ≡ startPlan t asked ⌝ }
+// The plan of length 0: no transition slot, and each id's entry with its shortfall at the request slot. These shortfalls, the starts, are put in too.
+pub fn start_plan(t: Timetable, asked: Request, starts: &mut [u16; Timetable::IDS]) -> Plan
+    requires { ⌜ (isSound t ≡ true) × (t .base .0 ≤ asked .slot .0) × (length (now starts) ≡ IDS) ⌝ }
+    ensures { λ r. ⌜ (r ≡ startPlan t asked) × (now (starts .exit) ≡ startsOf t asked) ⌝ }
 {
     let elapsed = asked.slot.0 - t.base.0;
     let none = Entry::none();
@@ -51,27 +52,15 @@ pub fn start_plan(t: Timetable, asked: Request) -> Plan
     while id < Timetable::IDS {
         let old = t.entries[id];
         let ask = asked.asks[id];
-        entries[id] = enter(old, elapsed, ask);
+        let e = enter(old, elapsed, ask);
+        entries[id] = e;
+        starts[id] = e.shortfall;
         id += 1;
     }
     Plan {
         owners: [0; Timetable::LONGEST],
         entries,
     }
-}
-
-// The shortfalls of the entries, by id.
-pub fn shortfalls(entries: [Entry; Timetable::IDS]) -> [u16; Timetable::IDS]
-    ensures { λ r. ⌜ r ≡ shortfallsOf entries ⌝ }
-{
-    let mut shortfalls = [0; Timetable::IDS];
-    let mut id: usize = 0;
-    while id < Timetable::IDS {
-        let e = entries[id];
-        shortfalls[id] = e.shortfall;
-        id += 1;
-    }
-    shortfalls
 }
 
 // Stages 7 and 8, over the entries at the request slot.

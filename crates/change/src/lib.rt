@@ -59,13 +59,13 @@ pub fn decide(t: Timetable, request: &[u8], area: usize) -> Answer
         return answering::refuse(t, r);
     }
     let asked = read.request;
-    let plan = before::start_plan(t, asked);
+    let mut starts = [0; Timetable::IDS];
+    let plan = before::start_plan(t, asked, &mut starts);
     let entries = plan.entries;
     let listed = before::verdict_listed(entries);
     if let Verdict::Refused(r) = listed {
         return answering::refuse(t, r);
     }
-    let starts = before::shortfalls(entries);
     let found = transition::lengths::search(plan, asked.limit);
     answering::finish(t, asked, starts, found)
 }

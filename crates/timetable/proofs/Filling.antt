@@ -1,5 +1,5 @@
 -- A list with a number for each id, put in id by id. Assumes nothing.
-use lib.ListN.{getD, length, length-replicate, length-set, replicate, set}
+use lib.ListN.{getD, length, length-set, set}
 use lib.Seq.{getD-set-same, getD-set-other}
 use mathlib.Core.List.{List}
 use mathlib.Core.Path.{_≡_, _∙_}
@@ -14,8 +14,9 @@ pub record Filled (f : ℕ → ℕ) (n : ℕ) (l : List ℕ) : Type 0 where
   pub below : (i : ℕ) → i < n → getD l i 0 ≡ f i
 
 module _ (f : ℕ → ℕ) where
-  pub filled-none : Filled f 0 (replicate IDS 0)
-  filled-none = record { count = length-replicate {A = ℕ} IDS 0; below = λ i l. absurd (omega arith) }
+  -- No id has its number yet.
+  pub filled-nothing : (l : List ℕ) → length l ≡ IDS → Filled f 0 l
+  filled-nothing l h = record { count = h; below = λ i k. absurd (omega arith) }
 
   -- One id more.
   pub filled-next : (n : ℕ) (l : List ℕ) (x : ℕ) → n < IDS → Filled f n l → x ≡ f n → Filled f (n + 1) (set l n x)

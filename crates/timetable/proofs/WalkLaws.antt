@@ -12,7 +12,7 @@ use native.Mathlib.Nat.{mul-add, mul-le-mul, mul-le-mul-left, mul-suc, mul-zero,
 use native.Mathlib.Numerals.{add-one}
 use native.Mathlib.Omega.{arith}
 use Prim.Native.Nat.{ℕ, zero, suc, _+_, _-_, _*_, _≤_, _<_}
-use Rattle.slots.proofs.Below.{count-most, every-at}
+use Rattle.slots.proofs.Below.{count-most, every-at, true-false}
 use Rattle.slots.specs.Below.{count, every}
 use Rattle.slots.specs.Limits.{IDS, LONGEST, WHOLE, LARGEST-BOUND}
 use Rattle.slots.specs.Shortfall.{keeps, overSlot, weightOf}
@@ -27,7 +27,7 @@ use Rattle.timetable.specs.declared.Entry.{Entry}
 use Rattle.timetable.specs.declared.Timetable.{Timetable}
 use Rattle.timetable.specs.Sound.{ownersListed, startInRange, startsInRange, walkArrives}
 use Rattle.timetable.specs.Timetable.{entryOf, startOf, isListed, weight, transitionShortfall}
-use Rattle.timetable.specs.Walk.{Walkable, owedAt, Owed}
+use Rattle.timetable.specs.Walk.{Walkable, owedAt, Owed, StartsTaken}
 
 -- A shortfall over one slot rises by the weight at most.
 over-most : (b : Bool) (w s : ℕ) → overSlot b w s ≤ s + w
@@ -177,14 +177,19 @@ owed-tells t n owed a b h =
 pub unserved-is : (t : Timetable) (i v : ℕ) → v ≡ weight (entryOf (t .entries) i) → startOf t i + v * t .length ≡ owedAt t i 0
 unserved-is t i v p = ap (λ (x : ℕ). startOf t i + x * t .length) p ∙ sym (owed-start t i)
 
-pub unserved-all : (t : Timetable) (n : ℕ) (owed : List ℕ) → IDS ≤ n → Filled (λ i. owedAt t i 0) n owed → Owed t 0 owed
-unserved-all t n owed a h = record { count = h .count; each = λ i k. h .below i (omega arith) }
+-- The starts are taken where all are in range, and not where one is not.
+pub starts-taken : (t : Timetable) (n : ℕ) (owed : List ℕ) → IDS ≤ n → true ≡ startsInRange t → Filled (λ i. owedAt t i 0) n owed → StartsTaken t true owed
+starts-taken t n owed a e h = record { in-range = e; unserved = λ _. record { count = h .count; each = λ i k. h .below i (omega arith) } }
 
--- One of these sums is small.
-pub unserved-small : (t : Timetable) → Walkable t → startsInRange t ≡ true → (i : ℕ) → i < IDS → (v : ℕ) → v ≡ weight (entryOf (t .entries) i)
-    → startOf t i + v * t .length < 65536
-unserved-small t a b i k v p =
-    let small = walk-small (entryOf (t .entries) i .period) (startOf t i) (t .length) (t .length) (starts-below t a b i k) (length-known t (a .size)) (omega arith) in
+pub starts-refused : (t : Timetable) (owed : List ℕ) → false ≡ startsInRange t → StartsTaken t false owed
+starts-refused t owed e = record { in-range = e; unserved = λ z. absurd (true-false z refl) }
+
+-- Such a sum is small where the start is in range.
+pub unserved-small : (t : Timetable) → Walkable t → (i : ℕ) → i < IDS → startInRange (entryOf (t .entries) i) (startOf t i) ≡ true
+    → (v : ℕ) → v ≡ weight (entryOf (t .entries) i) → startOf t i + v * t .length < 65536
+unserved-small t a i k b v p =
+    let below = start-below (entryOf (t .entries) i) (startOf t i) (ranged-from (t .entries) (a .entries) .listed i k) b in
+    let small = walk-small (entryOf (t .entries) i .period) (startOf t i) (t .length) (t .length) below (length-known t (a .size)) (omega arith) in
     omega (arith, ap (λ (x : ℕ). x * t .length) p, small)
 
 -- ---- slices in the transition

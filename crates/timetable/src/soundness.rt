@@ -1,6 +1,6 @@
 // Whether a timetable is sound, clause by clause, whatever its fields hold. Nothing here is refused.
 ghost use lib.Dec.{eqb, ltb};
-ghost use lib.ListN.{getD};
+ghost use lib.ListN.{getD, length};
 ghost use mathlib.Core.Bool.{true, cond, _&&_, _||_};
 ghost use mathlib.Core.Path.{_≡_};
 ghost use Prim.Native.Nat.{_+_, _*_, _≤_};
@@ -11,7 +11,7 @@ ghost use Rattle.timetable.specs.Marks.{OfCycle};
 ghost use Rattle.timetable.specs.Sound.{requestInRange, lengthInRange, baseAsStated, ownersListed, isPeriod, isBound, entryInRange, entryBlank, entriesInRange, noneShared, startInRange, startsInRange, walkArrives, isSound};
 ghost use Rattle.timetable.specs.Taken.{Takes};
 ghost use Rattle.timetable.specs.Timetable.{entryOf, isListed, weight};
-ghost use Rattle.timetable.specs.Walk.{Walkable, Owed};
+ghost use Rattle.timetable.specs.Walk.{Walkable, Owed, StartsTaken};
 use crate::Entry;
 use crate::Timetable;
 use crate::figures::after_own;
@@ -97,34 +97,38 @@ impl Timetable {
         requires { ⌜ Walkable self ⌝ }
         ensures { λ r. ⌜ r ≡ (startsInRange self && walkArrives self) ⌝ }
     {
-        if !self.starts_in_range() {
+        let mut owed = [0; Timetable::IDS];
+        if !self.take_starts(&mut owed) {
             return false;
         }
-        self.walk_arrives()
+        self.walk_arrives(owed)
     }
 
-    // Each listed id's start is below 256 R, and every other one is zero.
-    fn starts_in_range(self) -> bool
-        requires { ⌜ entriesInRange (self .entries) ≡ true ⌝ }
-        ensures { λ r. ⌜ r ≡ startsInRange self ⌝ }
+    // Each listed id's start is below 256 R, and every other one is zero. Then what each would owe at the base if no transition slot were its own is put in: the start, and the weight for each slot.
+    fn take_starts(self, owed: &mut [u16; Timetable::IDS]) -> bool
+        requires { ⌜ Walkable self × (length (now owed) ≡ IDS) ⌝ }
+        ensures { λ r. ⌜ StartsTaken self r (now (owed .exit)) ⌝ }
     {
+        let size = self.length as u16;
         let mut id: usize = 0;
         while id < Timetable::IDS {
             let e = self.entries[id];
-            if !e.bears(self.starts[id]) {
+            let start = self.starts[id];
+            if !e.bears(start) {
                 return false;
             }
+            owed[id] = start + e.weight() * size;
             id += 1;
         }
         true
     }
 
     // Walking the transition from the starts gives the shortfalls at the base, in one pass over the owners: each slot is taken off what its owner would owe at the base without the slots left.
-    fn walk_arrives(self) -> bool
-        requires { ⌜ Walkable self × (startsInRange self ≡ true) ⌝ }
+    fn walk_arrives(self, unserved: [u16; Timetable::IDS]) -> bool
+        requires { ⌜ Walkable self × (startsInRange self ≡ true) × Owed self 0 unserved ⌝ }
         ensures { λ r. ⌜ r ≡ walkArrives self ⌝ }
     {
-        let mut owed = self.unserved();
+        let mut owed = unserved;
         let size = self.length as usize;
         let mut n: usize = 0;
         while n < size {
@@ -136,22 +140,6 @@ impl Timetable {
             n += 1;
         }
         self.arrives_at(owed)
-    }
-
-    // What each id would owe at the base if no transition slot were its own: its start, and its weight for each slot.
-    fn unserved(self) -> [u16; Timetable::IDS]
-        requires { ⌜ Walkable self × (startsInRange self ≡ true) ⌝ }
-        ensures { λ r. ⌜ Owed self 0 r ⌝ }
-    {
-        let size = self.length as u16;
-        let mut owed = [0; Timetable::IDS];
-        let mut id: usize = 0;
-        while id < Timetable::IDS {
-            let e = self.entries[id];
-            owed[id] = self.starts[id] + e.weight() * size;
-            id += 1;
-        }
-        owed
     }
 
     // Whether these are the shortfalls at the base.

@@ -1,7 +1,7 @@
 -- `decide` reads the request, asks the stages, and searches where they pass: the answer's definition goes the same way. Assumes nothing.
 use borrow.Author.Needs.{needs}
-use mathlib.Core.Path.{_≡_, sym, _∙_}
-use Rattle.change.proofs.Passing.{answer-first, answer-listed, answer-searched, first-passes, passes, ready-plan, holds, starts-are}
+use mathlib.Core.Path.{_≡_, refl, sym, _∙_}
+use Rattle.change.proofs.Passing.{answer-first, answer-listed, answer-searched, first-passes, passes, ready-plan, holds}
 use Rattle.change.specs.Stages.{stagesFirst, stagesListed}
 use Rattle.numbers.specs.Chain.{firstOf}
 use Rattle.numbers.specs.declared.Verdict.the-variants.{Passed}
@@ -43,7 +43,7 @@ enum-told : tie.Need-enum-told
 enum-told c = search needs
 
 start-plan-requires : tie.Need-start-plan-requires
-start-plan-requires c κs = first-passes _ _ _ (first (c .before))
+start-plan-requires c κs = let f = first-passes _ _ _ (first (c .before .before)) in (f .0, f .1, refl)
 
 verdict-listed-requires : tie.Need-verdict-listed-requires
 verdict-listed-requires c κs = search needs
@@ -59,48 +59,43 @@ returns-2 c =
     let v = c .before .before in
     let l = v .before .before in
     let p = l .before .before in
-    let e = p .before .before in
+    let e = p .before .before .before in
     c .refuse2 .ensures
     ∙ sym
-    (answer-listed _ _ _ _ (e .before .before .before .read-request .ensures) (first e) _ (p .start-plan .ensures) _
+    (answer-listed _ _ _ _ (e .before .before .before .read-request .ensures) (first e) _ (p .start-plan .ensures .0) _
     (sym (l .verdict-listed .ensures) ∙ v .listed .given .1))
 
 enum-told-2 : tie.Need-enum-told-2
 enum-told-2 c = search needs
 
-shortfalls-requires : tie.Need-shortfalls-requires
-shortfalls-requires c κs = search needs
-
 search-requires : tie.Need-search-requires
 search-requires c κs =
-    let l = c .before in
-    let p = l .before .before .before .before in
-    let e = p .before .before in
+    let p = c .before .before .before .before in
+    let e = p .before .before .before in
     let q = e .before .before .before .read-request .ensures in (
-      ready-plan _ _ _ _ q (first e) _ (p .start-plan .ensures) (listed l),
-      passes _ _ _ _ q (first e) _ (p .start-plan .ensures) (listed l) .range .limit,
+      ready-plan _ _ _ _ q (first e) _ (p .start-plan .ensures .0) (listed c),
+      passes _ _ _ _ q (first e) _ (p .start-plan .ensures .0) (listed c) .range .limit,
     )
 
 finish-requires : tie.Need-finish-requires
 finish-requires c κs =
-    let f = c .before in
-    let l = f .before in
+    let l = c .before in
     let p = l .before .before .before .before in
-    let e = p .before .before in
+    let e = p .before .before .before in
     let q = e .before .before .before .read-request .ensures in (
-      holds _ _ _ _ q (first e) _ (p .start-plan .ensures) (listed l) _ (c .search .ensures),
-      starts-are _ _ _ _ q (first e) _ (p .start-plan .ensures) _ (f .shortfalls .ensures),
+      holds _ _ _ _ q (first e) _ (p .start-plan .ensures .0) (listed l) _ (c .search .ensures),
+      p .start-plan .ensures .1,
     )
 
 returns-3 : tie.Need-returns-3
 returns-3 c =
     let x = c .before in
-    let l = x .before .before in
+    let l = x .before in
     let p = l .before .before .before .before in
-    let e = p .before .before in
+    let e = p .before .before .before in
     c .finish .ensures
     ∙ sym
-    (answer-searched _ _ _ _ (e .before .before .before .read-request .ensures) (first e) _ (p .start-plan .ensures) (listed l) _ (x .search .ensures))
+    (answer-searched _ _ _ _ (e .before .before .before .read-request .ensures) (first e) _ (p .start-plan .ensures .0) (listed l) _ (x .search .ensures))
 
 pub decide-spec : {M : Type 1} → statement M
 decide-spec =
@@ -118,7 +113,6 @@ decide-spec =
     refuse-requires-2
     returns-2
     enum-told-2
-    shortfalls-requires
     search-requires
     finish-requires
     returns-3)

@@ -19,22 +19,19 @@ Inv-loop self owed₀ size n₀ owed n = (n ≤ self .length) × Owed self n owe
 abbrev μ-loop : tie.MeasureT-loop
 μ-loop self owed₀ size n₀ owed n = self .length - n
 
-unserved-requires : tie.Need-unserved-requires Inv-loop μ-loop
-unserved-requires c κs = c .pre
-
 cast-size : tie.Need-cast-size Inv-loop μ-loop
 cast-size c = search needs
 
 loop-holds : tie.Need-loop-holds Inv-loop μ-loop
-loop-holds c = (omega arith, c .unserved .ensures)
+loop-holds c = (omega arith, c .pre .2)
 
 -- The transition has at most 64 slots, and the owner of each is an id.
 in-transition : (c : tie.In-loop Inv-loop μ-loop) → c .before .loop .n < LONGEST
-in-transition c = let s = c .before .before .before in omega (arith, c .loop-test .taken, length-known (s .args .t1) (s .pre .0 .size))
+in-transition c = let s = c .before .before in omega (arith, c .loop-test .taken, length-known (s .args .t1) (s .pre .0 .size))
 
-an-id : (c : tie.In-loop Inv-loop μ-loop) → getD (c .before .before .before .args .t1 .owners) (c .before .loop .n) 0 < IDS
+an-id : (c : tie.In-loop Inv-loop μ-loop) → getD (c .before .before .args .t1 .owners) (c .before .loop .n) 0 < IDS
 an-id c =
-    let s = c .before .before .before in
+    let s = c .before .before in
     let k : length (s .args .t1 .entries) ≡ IDS = search (unmapped, needs) in
     owner-below (s .args .t1) (s .pre .0) k (c .before .loop .n) (c .loop-test .taken)
 
@@ -60,24 +57,24 @@ sub-rest-2 : tie.Need-sub-rest-2 Inv-loop μ-loop
 sub-rest-2 c = omega (arith, c .before .before .before .loop-test .taken)
 
 cast-rest : tie.Need-cast-rest Inv-loop μ-loop
-cast-rest c = let s = c .before .before .before .before .before .before in omega (arith, length-known (s .args .t1) (s .pre .0 .size))
+cast-rest c = let s = c .before .before .before .before .before in omega (arith, length-known (s .args .t1) (s .pre .0 .size))
 
 -- What is taken off is there, and what is there is small.
 there : (c : tie.After-weight Inv-loop μ-loop)
-    → c .weight .result * (c .before .before .before .before .before .before .args .t1 .length - c .before .before .before .before .loop .n - 1)
-    ≤ getD (c .before .before .before .before .loop .owed) (getD (c .before .before .before .before .before .before .args .t1 .owners) (c .before .before .before .before .loop .n) 0) 0
+    → c .weight .result * (c .before .before .before .before .before .args .t1 .length - c .before .before .before .before .loop .n - 1)
+    ≤ getD (c .before .before .before .before .loop .owed) (getD (c .before .before .before .before .before .args .t1 .owners) (c .before .before .before .before .loop .n) 0) 0
 there c =
     let i = c .before .before .before in
     let l = i .before .loop in
-    let s = i .before .before .before in
+    let s = i .before .before in
     rest-there (s .args .t1) (s .pre .0) (s .pre .1) (l .n) (i .loop-test .taken) (l .owed) (l .inv .1) _ (an-id i) (c .weight .result) (c .weight .ensures)
 
 small : (c : tie.After-weight Inv-loop μ-loop)
-    → getD (c .before .before .before .before .loop .owed) (getD (c .before .before .before .before .before .before .args .t1 .owners) (c .before .before .before .before .loop .n) 0) 0 < 65536
+    → getD (c .before .before .before .before .loop .owed) (getD (c .before .before .before .before .before .args .t1 .owners) (c .before .before .before .before .loop .n) 0) 0 < 65536
 small c =
     let i = c .before .before .before in
     let l = i .before .loop in
-    let s = i .before .before .before in
+    let s = i .before .before in
     owed-small (s .args .t1) (s .pre .0) (s .pre .1) (l .n) (i .loop-test .taken) (l .owed) (l .inv .1) _ (an-id i) (c .weight .result) (c .weight .ensures)
 
 mul-rest : tie.Need-mul-rest Inv-loop μ-loop
@@ -111,7 +108,7 @@ loop-again : tie.Need-loop-again Inv-loop μ-loop
 loop-again c =
     let i = c .before .before .before .before in
     let l = i .before .loop in
-    let t = i .before .before .before .args .t1 in (
+    let t = i .before .before .args .t1 in (
       omega (arith, i .loop-test .taken),
       owed-next t (l .n) (l .owed) (i .loop-test .taken) (an-id i) (l .inv .1) (c .before .weight .result) (c .after-own .result) (c .before .weight .ensures) (c .after-own .ensures),
     )
@@ -123,7 +120,7 @@ returns : tie.Need-returns Inv-loop μ-loop
 returns c =
     let k = c .before in
     let l = k .before .loop in
-    c .arrives-at .ensures ∙ owed-tells (k .before .before .before .args .t1) (l .n) (l .owed) (k .loop-test .left) (l .inv .0) (l .inv .1)
+    c .arrives-at .ensures ∙ owed-tells (k .before .before .args .t1) (l .n) (l .owed) (k .loop-test .left) (l .inv .0) (l .inv .1)
 
 pub walk-arrives-spec : {M : Type 1} → statement M
 walk-arrives-spec =
@@ -131,7 +128,6 @@ walk-arrives-spec =
     (tie.spec
     Inv-loop
     μ-loop
-    unserved-requires
     cast-size
     loop-holds
     element-copy-out-owner
