@@ -1,13 +1,13 @@
 -- A schedule in range is read back from its record: each field stands where the one before ends. Assumes nothing.
-use lib.ListN.{drop, getD, length, length-drop, length-replicate, length-set, replicate, set, take}
-use lib.Seq.{ext-getD, getD-set-other, getD-set-same, getD-take, length-take-le}
+use lib.ListN.{drop, getD, length, length-drop, length-replicate, replicate, set, take}
+use lib.Seq.{getD-take, length-take-le}
 use mathlib.Core.Bool.{Bool, true, false, cond}
 use mathlib.Core.List.{List, [], _∷_, _++_, append-assoc, map}
 use mathlib.Core.Path.{_≡_, refl, sym, ap, ap₂, _∙_, subst, subst₂}
-use native.Mathlib.Decide.{ℕ-discrete, decLt}
+use native.Mathlib.Decide.{decLt}
 use native.Mathlib.Omega.{arith}
 use Prim.Native.Nat.{ℕ, zero, suc, _+_, _≤_, _<_}
-use Rattle.archive.proofs.AnswerForms.{Open, floor-first, floor-next, open-above, owner-none, owner-told, idBytes}
+use Rattle.archive.proofs.AnswerForms.{floor-first, floor-next, owner-none, owner-told, idBytes}
 use Rattle.archive.proofs.AnswerSteps.{AnswerRead, FieldRead, answer-is}
 use Rattle.archive.proofs.ScheduleLaws.{owners-are, placed-map}
 use Rattle.archive.specs.AnswerRead.{floorAt, noOffset, toldOwner, ownersBelow, entryOffset, idOffset, readAnswer, scheduleRecord, toldLength, wholeAnswer, withField}

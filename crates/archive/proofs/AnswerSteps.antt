@@ -5,7 +5,7 @@ use lib.ListN.{length, set}
 use mathlib.Core.Bool.{Bool, true, false, cond, _&&_, and-false}
 use mathlib.Core.List.{List}
 use mathlib.Core.Logic.{_≢_, inl, inr}
-use mathlib.Core.Path.{_≡_, refl, sym, subst}
+use mathlib.Core.Path.{_≡_, refl, subst}
 use native.Mathlib.Omega.{arith}
 use Prim.Native.Nat.{ℕ, zero, suc, _+_, _≤_, _<_}
 use Rattle.archive.specs.AnswerRead.{areOwners, fieldAt, floorAt, lengthField, lengthStands, noSchedule, offsetField, offsetStands, ownersBelow, ownersField, ownersStand, readEnd, readFields, readFrom, refusedAnswer, refusedAt, toldLength, wholeAnswer, withField}

@@ -1,12 +1,12 @@
 -- What is read is in range, and what is refused has a number from 3 to 5 and a place in the record: every field says so. Assumes nothing.
-use lib.ListN.{getD, length, length-set, replicate, set}
+use lib.ListN.{length, length-set, set}
 use lib.Seq.{getD-set-same, getD-set-other}
 use mathlib.Core.List.{List}
 use mathlib.Core.Logic.{inl, inr}
 use mathlib.Core.Path.{_≡_, refl, ap, _∙_}
 use native.Mathlib.Decide.{ℕ-discrete}
 use native.Mathlib.Omega.{arith}
-use Prim.Native.Nat.{ℕ, zero, suc, _≤_, _<_}
+use Prim.Native.Nat.{ℕ, _≤_, _<_}
 use Rattle.records.proofs.FieldLaws.{NumberRead, ListedRead}
 use Rattle.records.proofs.RisingLaws.{all-empty}
 use Rattle.records.proofs.ReadSteps.{ListingRead, RequestRead, listed-range, number-range, request-read}

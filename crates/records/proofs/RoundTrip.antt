@@ -1,18 +1,16 @@
 -- A request in range is read back from what it is written as: each field stands where the one before ends. Assumes nothing.
 use borrow.Author.Tests.{eqb-true, eqb-false, le-leb, lt-ltb, ltb-true, ltb-false}
 use lib.Dec.{eqb}
-use lib.ListN.{drop, length, length-drop, length-set, set}
-use lib.Seq.{ext-getD, getD-set-other, getD-set-same}
+use lib.ListN.{drop, length, length-drop, set}
 use mathlib.Core.Bool.{Bool, true, false, cond, _&&_}
 use mathlib.Core.List.{List, [], _∷_, _++_, append-assoc}
 use mathlib.Core.Logic.{inl, inr}
 use mathlib.Core.Path.{_≡_, refl, sym, ap, ap₂, _∙_, subst, subst₂}
-use native.Mathlib.Decide.{ℕ-discrete}
 use native.Mathlib.Omega.{arith}
 use Prim.Native.Nat.{ℕ, zero, suc, _+_, _^_, _≤_, _<_}
 use Rattle.records.proofs.FieldLaws.{NumberRead, ListedForm}
 use Rattle.records.proofs.FieldStands.{after-stands, content-from, content-stands, field-stands, no-other-length, number-length, number-stands, stands-inside}
-use Rattle.records.proofs.OneForm.{Fresh, askedBytes, exponent-power, fresh-above}
+use Rattle.records.proofs.OneForm.{askedBytes, exponent-power}
 use Rattle.records.proofs.ReadLaws.{AskRange, AsksRange, RequestRange, no-ask}
 use Rattle.records.proofs.ReadSteps.{ListingRead, RequestRead, request-is}
 use Rattle.records.proofs.RisingLaws.{FilledTo, filled-all, filled-next, filled-same, rising-split, risingFrom}

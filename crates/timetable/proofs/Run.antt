@@ -1,8 +1,7 @@
 -- The run of accepted timetables: from its request slot on each timetable's shortfalls and slices are those of the run, counted across every change before
 -- it, and every listed id's bound is kept in every slot. By induction on the history. Assumes nothing.
 use borrow.Author.Tests.{le-leb, lt-leb, eq-eqb, ne-eqb, lt-ltb}
-use lib.Dec.{eqb}
-use lib.ListN.{getD, length, replicate, length-replicate, List·getD-eq-default, getD-replicate}
+use lib.ListN.{length, replicate, length-replicate, List·getD-eq-default, getD-replicate}
 use mathlib.Core.Bool.{Bool, true, false}
 use mathlib.Core.List.{[], _∷_}
 use mathlib.Core.Path.{_≡_, refl, sym, ap, ap₂, _∙_, subst, fun-ext}

@@ -161,7 +161,7 @@ pub entry-range : (es : List Entry) (i : ℕ) → entriesInRange es ≡ true →
 unfolding entriesInRange
 entry-range es i h k l = sym (formed-listed (entryOf es i) l) ∙ every-at (entryTest es) IDS h i k
 
--- What starts_in_range asks of id i.
+-- What take_starts asks of id i.
 abbrev pub startTest : Timetable → ℕ → Bool
 startTest t i = startInRange (entryOf (t .entries) i) (startOf t i)
 

@@ -1,8 +1,7 @@
 -- The invariant: what is read from `at` on, added to the offsets so far, is what is read from the first place on. Assumes nothing.
 use borrow.Author.Needs.{needs}
-use lib.Dec.{leb, ltb}
 use lib.ListN.{length, length-replicate, length-set, replicate}
-use mathlib.Core.Bool.{true, _&&_}
+use mathlib.Core.Bool.{true}
 use mathlib.Core.Logic.{_≢_}
 use mathlib.Core.List.{List}
 use mathlib.Core.Path.{_≡_, sym, subst, _∙_}
@@ -11,10 +10,9 @@ use Prim.Native.Nat.{ℕ, _-_}
 use Rattle.archive.proofs.answer.from_offsets.Statement.{statement}
 use Rattle.archive.proofs.answer.from_offsets.Tie as tie
 use Rattle.archive.proofs.AnswerSteps.{AnswerRead, offset-ends, offset-goes, offset-inside, offset-stops}
-use Rattle.archive.specs.AnswerRead.{floorAt, noOffset, offsetStands}
+use Rattle.archive.specs.AnswerRead.{noOffset, offsetStands}
 use Rattle.archive.specs.declared.ReadAnswer.{ReadAnswer}
 use Rattle.archive.specs.declared.Schedule.{Schedule}
-use Rattle.records.specs.Request.{contentAt, isField}
 use Rattle.slots.specs.Limits.{IDS}
 
 abbrev Inv-loop : tie.InvT-loop

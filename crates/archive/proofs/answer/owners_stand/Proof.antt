@@ -1,7 +1,7 @@
 -- The length is tested first, then the form, then the owners. Assumes nothing.
 use borrow.Author.Needs.{needs}
 use borrow.Author.Tests.{le-leb, lt-leb, not-false, not-true}
-use mathlib.Core.Bool.{true, and-false}
+use mathlib.Core.Bool.{and-false}
 use mathlib.Core.Path.{_≡_, sym, subst, _∙_}
 use native.Mathlib.Omega.{arith}
 use Prim.Native.Nat.{ℕ}
