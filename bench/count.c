@@ -1,5 +1,5 @@
 /* Calls of the library to be counted: count NAME TIMES makes the named call so many times, and with no argument prints each name and what it is.
- * count NAME stack prints the deepest stack of the call in bytes, on a thread whose stack is painted. */
+ * count NAME stack prints the deepest stack of the call in bytes, on a thread that paints its own. */
 #include "tarnflaw.h"
 
 #include <pthread.h>
@@ -9,6 +9,7 @@
 
 #define STACK 65536
 #define PAINT 0xa5
+#define FRAME 128
 #define BASE_AT 73
 #define ENTRIES_AT 81
 #define ENTRY 6
@@ -44,6 +45,7 @@ static void change(const uint8_t *from, const uint8_t *request, size_t size) {
     number = tarnflaw_change(image, TARNFLAW_IMAGE, request, size, area, TARNFLAW_AREA, &place, &tries, &written);
 }
 
+static void nothing(void) {}
 static void change_b(void) { change(after_a, request_b, size_b); }
 static void change_turns(void) { change(short_turns, request_turns, size_turns); }
 static void change_long(void) { change(long_turns, request_turns, size_turns); }
@@ -58,6 +60,7 @@ static const struct {
     const char *name, *what;
     void (*call)(void);
 } calls[] = {
+    {"nothing", "no call", nothing},
     {"change-b", "change: case B, length 1", change_b},
     {"change-turns", "change: 32 partitions asked for again, length 0", change_turns},
     {"change-long", "the same after a transition of 64 slots", change_long},
@@ -87,28 +90,31 @@ static void prepare(void) {
     tarnflaw_write_request(96, 64, all, sizeof all, request_turns, TARNFLAW_REQUEST, &place, &size_turns);
 }
 
-static uint8_t *top;
+static uint8_t *stack;
+static size_t deepest;
 
+/* Paints the stack below its own frame, makes the call, and looks how far the paint is gone: the thread's begin and end use the stack too. */
 static void *on_stack(void *call) {
-    uint8_t here;
-    top = &here;
+    volatile uint8_t here;
+    volatile uint8_t *byte;
+    size_t untouched = 0;
+    for (byte = stack; byte < &here - FRAME; byte++) *byte = PAINT;
     (*(void (**)(void))call)();
+    while (stack[untouched] == PAINT) untouched++;
+    deepest = (size_t)(&here - stack) - untouched;
     return NULL;
 }
 
-/* The bytes below the thread's first frame that the call touches. */
+/* The bytes below the thread's first function that the call touches, or at most those of that function's frame where it touches less. */
 static size_t depth(void (*call)(void)) {
-    uint8_t *stack = aligned_alloc(4096, STACK);
-    size_t untouched = 0;
     pthread_attr_t attributes;
     pthread_t thread;
-    memset(stack, PAINT, STACK);
+    stack = aligned_alloc(4096, STACK);
     pthread_attr_init(&attributes);
     pthread_attr_setstack(&attributes, stack, STACK);
     pthread_create(&thread, &attributes, on_stack, &call);
     pthread_join(thread, NULL);
-    while (stack[untouched] == PAINT) untouched++;
-    return (size_t)(top - stack) - untouched;
+    return deepest;
 }
 
 int main(int count, char **words) {

@@ -243,7 +243,7 @@
  * What it takes
  *
  * Measured, not proved, and the worst that was found, not a bound. Stack, with that of memcpy and memset (bench/count): of a change 5,551 bytes, of an
- * owner query 2,207, of a standing query 1,903; that of the other functions was not measured. Times are of version 4. A change took 95 to 103 microseconds
+ * owner query 2,207, of a standing query 1,871; that of the other functions was not measured. Times are of version 4. A change took 95 to 103 microseconds
  * on a quiet machine, 142 where other work disturbed it; a query 0.5 (docs/BENCHMARKS.md has the machine and the inputs). A later build was timed on a
  * slower machine with an unsteady clock: the worst changes of three runs took 169, 201 and 117 microseconds there (docs/landings/ground.md). Reading an
  * answer took 0.2 microseconds at the worst, and writing a request 0.1. Since then a query has more to look at: it takes four to nine tenths more
