@@ -53,6 +53,7 @@ impl Timetable {
         }
         Timetable::IDLE
     }
+
     // The shortfall of a listed id at the start of a slot from the request slot on.
     pub fn shortfall_at(self, id: u8, x: CoreSlot) -> u16
         requires { ⌜ (isSound self ≡ true) × (id < IDS) × (lists self id ≡ true) × (self .request .0 ≤ x .0) ⌝ }
