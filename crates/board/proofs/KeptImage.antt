@@ -18,9 +18,10 @@ use Rattle.change.specs.declared.Answer.{Answer}
 use Rattle.change.specs.Controller.{Sent, historyOf}
 use Rattle.numbers.specs.Numbers.{ACCEPTED}
 use Rattle.slots.specs.Limits.{IDS, LONGEST}
-use Rattle.timetable.proofs.Listing.{empty-sound}
+use Rattle.timetable.proofs.InForce.{empty-sound}
 use Rattle.timetable.proofs.Ranges.{period-le}
 use Rattle.timetable.proofs.Sound.{Sound, sound-from}
+use Rattle.timetable.specs.declared.Entry.{Entry}
 use Rattle.timetable.specs.declared.Timetable.{Timetable}
 use Rattle.timetable.specs.History.{History, present}
 use Rattle.timetable.specs.Timetable.{emptyTimetable, entryOf, isListed, noEntry, startOf}
@@ -43,7 +44,9 @@ sound-fits t s o n m = record {
     small i h true l =
         let r = s .ranged .listed i h l in
         (omega (arith, period-le _ (r .period)), omega (arith, r .kept, r .bound-high), omega (arith, s .start-kept i h l, r .bound-high))
-    small i h false l = rw (s .ranged .blank i h l, s .start-zero i h l) (omega arith, omega arith, omega arith)
+    small i h false l =
+        let a = s .ranged .absent i h l in
+        (omega (arith, ap (λ (e : Entry). e .period) (a .zero)), omega (arith, a .below), omega (arith, s .start-same i h l, a .below))
 
 module _ (t : Timetable) (s : List ℕ) (area : ℕ) where
   -- The timetable of an accepted request fits.

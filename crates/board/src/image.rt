@@ -74,7 +74,7 @@ fn entries_of(image: &[u8]) -> [Entry; Timetable::IDS]
     requires { ⌜ length (now image) ≡ IMAGE ⌝ }
     ensures { λ r. ⌜ r ≡ entriesAt (now (image .entry)) IDS ⌝ }
 {
-    let none = Entry::none();
+    let none = Entry::absent(0);
     let mut entries = [none; Timetable::IDS];
     let mut id: usize = 0;
     while id < Timetable::IDS {

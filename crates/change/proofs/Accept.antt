@@ -7,7 +7,7 @@ use mathlib.Core.Path.{_≡_, refl, sym, ap, ap₂, _∙_, subst}
 use native.Mathlib.Decide.{ℕ-discrete, decLt}
 use native.Mathlib.Omega.{arith}
 use Prim.Native.Nat.{ℕ, _+_, _-_, _*_, _≤_, _<_}
-use Rattle.change.proofs.Start.{start-fit, start-listed, start-of}
+use Rattle.change.proofs.Start.{start-fit, start-of, start-shortfall}
 use Rattle.change.specs.Change.{newTimetable, startPlan, startsOf}
 use Rattle.change.specs.Refused.{Behind}
 use Rattle.change.specs.Stages.{startEntries}
@@ -19,16 +19,16 @@ use Rattle.records.specs.declared.Request.{Request}
 use Rattle.slots.proofs.Below.{true-false}
 use Rattle.slots.specs.Limits.{IDS, LONGEST, WHOLE}
 use Rattle.timetable.proofs.Ranges.{InRange}
-use Rattle.timetable.proofs.Run.{Continues}
+use Rattle.timetable.proofs.InForce.{Continues}
 use Rattle.timetable.proofs.Since.{shortfall-before}
-use Rattle.timetable.proofs.Sound.{Ranged, Sound}
+use Rattle.timetable.proofs.Sound.{Sound}
 use Rattle.timetable.specs.declared.Entry.{Entry}
 use Rattle.timetable.specs.declared.Timetable.{Timetable}
-use Rattle.timetable.specs.Timetable.{noEntry, entryOf, startOf, isListed, lists, weight, withOffset, withShortfall, shortfallSince, startShortfall, transitionShortfall}
+use Rattle.timetable.specs.Timetable.{noEntry, entryOf, startOf, isListed, lists, weight, withOffset, withShortfall, shortfallAt, shortfallSince, transitionShortfall}
 use Rattle.transition.proofs.Plans.{Fit}
 use Rattle.transition.proofs.Reach.{fit-reached}
 use Rattle.transition.proofs.Search.{PassedFirst}
-use Rattle.transition.proofs.Walk.{walk-agree, owners-stay, walked}
+use Rattle.transition.proofs.Walk.{owners-stay, walk-agree, walked, walked-absent}
 use Rattle.transition.specs.declared.Plan.{Plan}
 use Rattle.transition.specs.Reach.{reach}
 use Rattle.transition.specs.Transition.{placed}
@@ -41,7 +41,7 @@ listed-below es len u l = at (decLt u IDS)
     at (yes k) = k
     at (no k) = absurd (true-false l (ap isListed (List·getD-eq-default es noEntry {n = u} (omega (arith, len)))))
 
-module _ (t : Timetable) (r : Request) (ranged : Ranged (t .entries)) (q : RequestRange r) (later : t .base .0 ≤ r .slot .0)
+module _ (t : Timetable) (r : Request) (sound : Sound t) (q : RequestRange r) (later : t .base .0 ≤ r .slot .0)
     (fine : (i : ℕ) → i < IDS → Behind (entryOf (startEntries t (r .slot) (r .asks)) i) → ⊥)
     (k : ℕ) (kl : k ≤ r .limit) (before : PassedFirst k 0 (startPlan t r))
     (p : Plan) (here : reach (startPlan t r) k ≡ some p) (ps : List Place) (rule4 : placement (p .entries) ≡ some ps) where
@@ -50,7 +50,7 @@ module _ (t : Timetable) (r : Request) (ranged : Ranged (t .entries)) (q : Reque
 
   fit : Fit 0 plan
   unfolding plan
-  fit = start-fit t r ranged q fine
+  fit = start-fit t r sound later q fine
 
   -- The new timetable.
   new : Timetable
@@ -107,11 +107,9 @@ module _ (t : Timetable) (r : Request) (ranged : Ranged (t .entries)) (q : Reque
     unfolding new s plan
     starts = start-of t r i
 
-    enters : isListed e ≡ true → startOf new i ≡ startShortfall t (r .slot) i
+    enters : startOf new i ≡ shortfallAt t i (r .slot)
     unfolding s plan startPlan
-    enters il =
-        let l : isListed (entryOf (startEntries t (r .slot) (r .asks)) i) ≡ true = sym (ap isListed settled) ∙ il in
-        starts ∙ ap (λ (e : Entry). e .shortfall) (start-listed t (r .slot) (r .asks) i ik l .1)
+    enters = starts ∙ start-shortfall t (r .slot) (r .asks) i ik
 
     -- keeps its bound on the way,
     bears : isListed e ≡ true → (n : ℕ) → n ≤ k → walk n < WHOLE * e .bound
@@ -131,10 +129,14 @@ module _ (t : Timetable) (r : Request) (ranged : Ranged (t .entries)) (q : Reque
     arrives : transitionShortfall (p .owners) i (weight e) (startOf new i) k ≡ e .shortfall
     arrives = transition k ∙ sym (ap (λ (y : Entry). y .shortfall) settled)
 
-    -- Of an id that is not listed nothing is kept.
-    start-blank : isListed e ≡ false → startOf new i ≡ 0
-    unfolding s
-    start-blank il = starts ∙ ap (λ (y : Entry). y .shortfall) (fit .ranged .blank i ik (sym (ap isListed settled) ∙ il))
+    -- Of an id that is not listed the two are the same.
+    start-same : isListed e ≡ false → startOf new i ≡ e .shortfall
+    unfolding s plan
+    start-same il =
+        starts
+        ∙ sym (ap (λ (y : Entry). y .shortfall) (walked-absent plan fit k small p here i ik (sym (ap isListed settled) ∙ il)))
+        ∙ ap (λ (y : Entry). y .shortfall) (walks k (omega arith) p here)
+        ∙ sym (ap (λ (y : Entry). y .shortfall) settled)
 
   new-sound : Sound new
   unfolding new placed walk transitionShortfall
@@ -150,7 +152,7 @@ module _ (t : Timetable) (r : Request) (ranged : Ranged (t .entries)) (q : Reque
     apart = settle-apart (p .entries) (at-k .ranged) (at-k .entries) ps rule4;
     unused = λ n _ l. at-k .unused n l;
     start-kept = λ i ik il. omega (arith, starts i ik, bears i ik il 0 (omega arith));
-    start-zero = start-blank;
+    start-same = start-same;
     arrives = arrives;
   }
 

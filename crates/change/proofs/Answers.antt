@@ -26,7 +26,7 @@ use Rattle.records.specs.Answer.{answerRecord}
 use Rattle.records.specs.declared.Request.{Request}
 use Rattle.records.specs.Request.{readRequest}
 use Rattle.slots.specs.Limits.{AREA, IDS, LONGEST}
-use Rattle.timetable.proofs.Run.{Continues}
+use Rattle.timetable.proofs.InForce.{Continues}
 use Rattle.timetable.proofs.Sound.{Sound, sound-from}
 use Rattle.timetable.specs.declared.Timetable.{Timetable}
 use Rattle.timetable.specs.Timetable.{entryOf}
@@ -52,7 +52,7 @@ admitted t s area (passed _ (passed _ (sound a) (passed _ (enough b) (passed _ (
 
 -- The plan from which its lengths are searched is fit.
 pub admitted-fit : (t : Timetable) (r : Request) (area : ℕ) → Admitted t r area → Fit 0 (startPlan t r)
-admitted-fit t r area p = start-fit t r (p .sound .ranged) (p .range) (p .fine)
+admitted-fit t r area p = start-fit t r (p .sound) (p .later) (p .range) (p .fine)
 
 -- The answer with a schedule: length k, and the plan placed.
 abbrev pub acceptedAs : Timetable → Request → ℕ → Plan → Answer
@@ -137,7 +137,7 @@ module _ (t : Timetable) (s : List ℕ) (area : ℕ) where
 
   -- It continues the one before.
   pub accepted-continues : answer t s area .number ≡ ACCEPTED → Continues t (answer t s area .timetable)
-  accepted-continues = accepted-has (Continues t) (λ k l b q h ps f p. found-continues t r (p .sound .ranged) (p .range) (p .later) (p .fine) k l b q h ps f)
+  accepted-continues = accepted-has (Continues t) (λ k l b q h ps f p. found-continues t r (p .sound) (p .range) (p .later) (p .fine) k l b q h ps f)
 
   -- It has 64 owners.
   pub accepted-owners : answer t s area .number ≡ ACCEPTED → length (answer t s area .timetable .owners) ≡ LONGEST

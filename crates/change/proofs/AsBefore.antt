@@ -4,6 +4,7 @@ use borrow.Author.Tests.{lt-ltb}
 use lib.ListN.{replicate}
 use mathlib.Core.Bool.{Bool, true, false}
 use mathlib.Core.List.{List, _++_}
+use mathlib.Core.Logic.{_⊎_, inl, inr}
 use mathlib.Core.Path.{_≡_, refl, sym, ap, _∙_, subst}
 use native.Mathlib.Decide.{ℕ-discrete}
 use native.Mathlib.Omega.{arith}
@@ -11,7 +12,7 @@ use Prim.Native.Nat.{ℕ, _-_, _*_, _≤_, _<_}
 use Rattle.change.proofs.Alike.{alike, same-slot}
 use Rattle.change.proofs.GivenLaws.{asks-bound}
 use Rattle.change.proofs.OneGiven.{bound-one}
-use Rattle.change.proofs.StageSteps.{enter-none, given-bound, listed-bound, listed-shortfall, new-bound, new-shortfall, short-bound}
+use Rattle.change.proofs.StageSteps.{enter-absent, given-bound, listed-bound, new-bound, short-bound}
 use Rattle.change.proofs.Start.{length-start, start-at, start-listed}
 use Rattle.change.specs.Change.{answerOf, answerTo, searchOf, startPlan}
 use Rattle.change.specs.Given.{AsksBound}
@@ -28,11 +29,11 @@ use Rattle.records.specs.Request.{askOf, readRequest}
 use Rattle.slots.specs.declared.CoreSlot.{CoreSlot}
 use Rattle.slots.specs.Limits.{IDS, LONGEST, WHOLE}
 use Rattle.timetable.proofs.Onward.{kept-after}
-use Rattle.timetable.proofs.Since.{start-cycle}
+use Rattle.timetable.proofs.Since.{shortfall-cycle}
 use Rattle.timetable.proofs.Sound.{Sound, sound-from}
 use Rattle.timetable.specs.declared.Entry.{Entry}
 use Rattle.timetable.specs.declared.Timetable.{Timetable}
-use Rattle.timetable.specs.Timetable.{entryOf, isListed, shortfallAfter, startShortfall}
+use Rattle.timetable.specs.Timetable.{entryOf, isListed, lists, shortfallAfter, shortfallAt}
 use Rattle.transition.proofs.RuleThreeLaws.{same-entries}
 use Rattle.transition.specs.declared.Plan.{Plan}
 use Rattle.transition.specs.Transition.{searchFrom}
@@ -44,7 +45,7 @@ unfolding entering
 enters-same old n ask full p b = at (ℕ-discrete (ask .period) 0)
   where
     at : Dec (ask .period ≡ 0) → entering old n full ≡ entering old n ask
-    at (yes z) = sym (enter-none old n full (p ∙ z)) ∙ enter-none old n ask z
+    at (yes z) = sym (enter-absent old n full n (p ∙ z) refl) ∙ enter-absent old n ask n z refl
     at (no z) =
         let w = b (omega arith) in
         let f : askedBound old full ≡ askedBound old ask =
@@ -70,7 +71,7 @@ module _ (t : Timetable) (read : ReadRequest) (asks : List Ask)
       same-entries (startEntries t slot asks) (startEntries t slot (read .request .asks)) (length-start t slot asks) (length-start t slot (read .request .asks))
       (λ i k.
       start-at t slot asks i k
-      ∙ enters-same (entryOf (t .entries) i) (startShortfall t slot i) (askOf (read .request .asks) i) (askOf asks i) (period i k) (bound i k)
+      ∙ enters-same (entryOf (t .entries) i) (shortfallAt t i slot) (askOf (read .request .asks) i) (askOf asks i) (period i k) (bound i k)
       ∙ sym (start-at t slot (read .request .asks) i k))
 
   -- So what the stages before the search say is the same,
@@ -97,10 +98,10 @@ module _ (t : Timetable) (read : ReadRequest) (asks : List Ask)
 
 -- ---- refusal 8
 
--- An id with a short field is not behind: listed, it keeps the bound that it had, and newly listed it starts at 0.
-pub short-kept : (t : Timetable) → Sound t → (slot : CoreSlot) → t .base .0 ≤ slot .0 → (asks : List Ask) (i : ℕ) → i < IDS → askOf asks i .bound ≡ 0
-    → Behind (entryOf (startEntries t slot asks) i) → ⊥
-short-kept t s slot later asks i k short b = at (isListed old) refl
+-- An id with a short field that is behind returns with a debt: a listed one keeps the bound that it had, and any other asks R 1.
+pub short-behind : (t : Timetable) → Sound t → (slot : CoreSlot) → t .base .0 ≤ slot .0 → (asks : List Ask) (i : ℕ) → i < IDS → askOf asks i .bound ≡ 0
+    → Behind (entryOf (startEntries t slot asks) i) → (lists t i ≡ false) × (WHOLE ≤ shortfallAt t i slot)
+short-behind t s slot later asks i k short b = at (isListed old) refl
   where
     old : Entry
     old = entryOf (t .entries) i
@@ -108,30 +109,30 @@ short-kept t s slot later asks i k short b = at (isListed old) refl
     n : ℕ
     n = slot .0 - t .base .0
 
-    owed : WHOLE * askedBound old (askOf asks i) ≤ startShortfall t slot i
+    owed : WHOLE * askedBound old (askOf asks i) ≤ shortfallAt t i slot
     owed = subst (λ (e : Entry). WHOLE * e .bound ≤ e .shortfall) (start-listed t slot asks i k (b .0) .1) (b .1)
 
-    at : (x : Bool) → isListed old ≡ x → ⊥
+    at : (x : Bool) → isListed old ≡ x → (lists t i ≡ false) × (WHOLE ≤ shortfallAt t i slot)
     at true l =
         let f = listed-bound old l ∙ short-bound old (askOf asks i) short in
-        let g : startShortfall t slot i ≡ shortfallAfter old n = sym (listed-shortfall old n (shortfallAfter old n) l refl ∙ start-cycle t s i k slot later) in
-        omega (arith, owed, f, g, kept-after old (s .ranged .listed i k l) n)
+        absurd (omega (arith, owed, f, shortfall-cycle t s i k slot later, kept-after old (s .ranged .listed i k l) n))
     at false l =
         let f = new-bound old l ∙ short-bound old (askOf asks i) short in
-        let g : startShortfall t slot i ≡ 0 = sym (new-shortfall old n 0 l refl ∙ start-cycle t s i k slot later) in
-        omega (arith, owed, f, g)
+        (l, omega (arith, owed, f))
 
--- So 8 names an id whose field gives its R.
-pub behind-in-full : (t : Timetable) (s : List ℕ) (area : ℕ) (x : Refusal) → StagesSay t (readRequest s) area (Refused x) → x .number ≡ BEHIND
-    → 0 < askOf (readRequest s .request .asks) (x .place) .bound
-behind-in-full t s area x (stops _ (stops _ (not-sound a))) e = absurd (omega arith)
-behind-in-full t s area x (stops _ (passed _ _ (stops _ (small-area a)))) e = absurd (omega arith)
-behind-in-full t s area x (stops _ (passed _ _ (passed _ _ (stops _ (bad-field q f))))) e = absurd (omega (arith, refused-in-range s q f .high))
-behind-in-full t s area x (stops _ (passed _ _ (passed _ _ (passed _ _ (too-early a))))) e = absurd (omega arith)
-behind-in-full t s area x (passed _ _ (stops _ (overfull i k f g))) e = absurd (omega arith)
-behind-in-full t s area x (passed _ (passed _ (sound z) (passed _ _ (passed _ _ (in-time l)))) (passed _ _ (behind i k b f))) e =
+-- So 8 names an id whose field gives its R, or one that returns with a debt of a whole slot or more.
+pub behind-named : (t : Timetable) (s : List ℕ) (area : ℕ) (x : Refusal) → StagesSay t (readRequest s) area (Refused x) → x .number ≡ BEHIND
+    → (0 < askOf (readRequest s .request .asks) (x .place) .bound)
+    ⊎ ((lists t (x .place) ≡ false) × (WHOLE ≤ shortfallAt t (x .place) (readRequest s .request .slot)))
+behind-named t s area x (stops _ (stops _ (not-sound a))) e = absurd (omega arith)
+behind-named t s area x (stops _ (passed _ _ (stops _ (small-area a)))) e = absurd (omega arith)
+behind-named t s area x (stops _ (passed _ _ (passed _ _ (stops _ (bad-field q f))))) e = absurd (omega (arith, refused-in-range s q f .high))
+behind-named t s area x (stops _ (passed _ _ (passed _ _ (passed _ _ (too-early a))))) e = absurd (omega arith)
+behind-named t s area x (passed _ _ (stops _ (overfull i k f g))) e = absurd (omega arith)
+behind-named t s area x (passed _ (passed _ (sound z) (passed _ _ (passed _ _ (in-time l)))) (passed _ _ (behind i k b f))) e =
     at (ℕ-discrete (askOf (readRequest s .request .asks) i .bound) 0)
   where
-    at : Dec (askOf (readRequest s .request .asks) i .bound ≡ 0) → 0 < askOf (readRequest s .request .asks) i .bound
-    at (yes y) = absurd (short-kept t (sound-from t z) (readRequest s .request .slot) l (readRequest s .request .asks) i k y b)
-    at (no y) = omega arith
+    at : Dec (askOf (readRequest s .request .asks) i .bound ≡ 0)
+        → (0 < askOf (readRequest s .request .asks) i .bound) ⊎ ((lists t i ≡ false) × (WHOLE ≤ shortfallAt t i (readRequest s .request .slot)))
+    at (yes y) = inr (short-behind t (sound-from t z) (readRequest s .request .slot) l (readRequest s .request .asks) i k y b)
+    at (no y) = inl (omega arith)

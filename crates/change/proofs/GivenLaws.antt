@@ -32,12 +32,12 @@ use Rattle.records.specs.Request.{askOf, readRequest}
 use Rattle.slots.specs.Limits.{IDS, LONGEST}
 use Rattle.timetable.specs.declared.Entry.{Entry}
 use Rattle.timetable.specs.declared.Timetable.{Timetable}
-use Rattle.timetable.specs.Timetable.{entryOf, isListed, startShortfall, withOffset}
+use Rattle.timetable.specs.Timetable.{entryOf, isListed, shortfallAt, withOffset}
 use Rattle.transition.proofs.Plans.{Fit}
 use Rattle.transition.proofs.Reach.{fit-reached}
 use Rattle.transition.proofs.RuleThreeLaws.{longer-breaks, reach-rule, reach-walked}
 use Rattle.transition.proofs.Search.{PassedFirst, passed-here}
-use Rattle.transition.proofs.Walk.{owners-stay, walked}
+use Rattle.transition.proofs.Walk.{owners-stay, walked-absent}
 use Rattle.transition.specs.declared.Plan.{Plan}
 use Rattle.transition.specs.Reach.{AnyoneBreaks, reach}
 use Rattle.transition.specs.RuleThree.{walkedTo}
@@ -60,10 +60,10 @@ unfolding entering
 at-request t q = record {
   count = length-start t (q .slot) (q .asks);
   listed = λ i k h. subst (Enters t q i) (sym (start-at t (q .slot) (q .asks) i k)) (enters i h);
-  blank = λ i k z. start-at t (q .slot) (q .asks) i k ∙ rw (le-ltb 0 (askOf (q .asks) i .period) (omega arith));
+  absent = λ i k z. start-at t (q .slot) (q .asks) i k ∙ rw (le-ltb 0 (askOf (q .asks) i .period) (omega arith));
 }
   where
-    enters : (i : ℕ) → 0 < askOf (q .asks) i .period → Enters t q i (entering (entryOf (t .entries) i) (startShortfall t (q .slot) i) (askOf (q .asks) i))
+    enters : (i : ℕ) → 0 < askOf (q .asks) i .period → Enters t q i (entering (entryOf (t .entries) i) (shortfallAt t i (q .slot)) (askOf (q .asks) i))
     enters i h =
         rw (lt-ltb 0 (askOf (q .asks) i .period) h)
         (record { period = refl; bound = asks-bound (entryOf (t .entries) i) (askOf (q .asks) i); shortfall = refl; offset = refl })
@@ -114,16 +114,16 @@ module _ (t : Timetable) (q : Request) (area : ℕ) (pass : Admitted t q area) w
         kept = λ i k.
             settle-kept (x .entries) (fit-here .ranged) (fit-here .entries) ps rule4 i k
             ∙ ap (λ (es : List Entry). withOffset (entryOf (settle (x .entries) ps) i .offset) (entryOf es i)) walk;
-        blank = λ i k z.
-            let u = unlisted i k z in
-            settle-unlisted (x .entries) (fit-here .ranged) (fit-here .entries) ps rule4 i k u ∙ fit-here .ranged .blank i k u;
+        absent = λ i k z.
+            let stays = walked-absent plan fit n small x here i k (unlisted i k z) in
+            settle-unlisted (x .entries) (fit-here .ranged) (fit-here .entries) ps rule4 i k (ap isListed stays ∙ unlisted i k z) ∙ stays;
       }
         where
           walk : x .entries ≡ walkedTo (plan .entries) (x .owners) n
           walk = on-the-way n (omega arith) x here
 
-          unlisted : (i : ℕ) → i < IDS → askOf (q .asks) i .period ≡ 0 → isListed (entryOf (x .entries) i) ≡ false
-          unlisted i k z = ap isListed (walked plan fit n small x here i k) ∙ ap isListed (at-request t q .blank i k z)
+          unlisted : (i : ℕ) → i < IDS → askOf (q .asks) i .period ≡ 0 → isListed (entryOf (plan .entries) i) ≡ false
+          unlisted i k z = ap isListed (at-request t q .absent i k z)
 
   module _ (n : ℕ) (small : n ≤ LONGEST) (b : PassedFirst (suc n) 0 plan) (x : Plan) (here : reach plan n ≡ some x) where
     -- For want of a schedule, with the number of the end.

@@ -8,7 +8,7 @@ use mathlib.Core.Path.{_≡_, refl, sym, ap, _∙_, subst}
 use native.Mathlib.Omega.{arith}
 use Prim.Native.Nat.{ℕ, zero, suc, _+_, _-_, _*_, _≤_, _<_}
 use Rattle.change.proofs.Answers.{acceptedAs, admitted, admitted-fit}
-use Rattle.change.proofs.AsBefore.{short-kept}
+use Rattle.change.proofs.AsBefore.{short-behind}
 use Rattle.change.proofs.Stages.{stages}
 use Rattle.change.proofs.Start.{start-at}
 use Rattle.change.specs.Change.{answer, answerOf, answerTo, numberOf, placeOf, refuse, searchOf, startPlan, timetableOf}
@@ -29,13 +29,13 @@ use Rattle.slots.proofs.Below.{true-false}
 use Rattle.slots.specs.Limits.{AREA, IDS, WHOLE}
 use Rattle.timetable.proofs.Onward.{ahead, ahead-inside, cyclic-onward, kept-onward, onward}
 use Rattle.timetable.proofs.Ranges.{InRange}
-use Rattle.timetable.proofs.Shares.{weight-blank, slices-blank, slices-fit, slices-weight, slicesSum}
-use Rattle.timetable.proofs.Since.{start-cycle}
+use Rattle.timetable.proofs.Shares.{slices-absent, slices-fit, slices-weight, slicesSum, weight-absent}
+use Rattle.timetable.proofs.Since.{shortfall-cycle}
 use Rattle.timetable.proofs.Sound.{Sound, sound-from}
 use Rattle.timetable.specs.declared.Entry.{Entry}
 use Rattle.timetable.specs.declared.Timetable.{Timetable}
 use Rattle.timetable.specs.Sound.{isSound}
-use Rattle.timetable.specs.Timetable.{cyclic, entryOf, isListed, noEntry, shortfallAfter, slicesAfter, startShortfall, weight, withOffset}
+use Rattle.timetable.specs.Timetable.{absentEntry, cyclic, entryOf, isListed, shortfallAfter, shortfallAt, slicesAfter, weight, withOffset}
 use Rattle.transition.proofs.Plans.{Fit}
 use Rattle.transition.proofs.Search.{search-found}
 use Rattle.transition.specs.Transition.{ended, placed}
@@ -58,16 +58,16 @@ module _ (t : Timetable) (s : Sound t) (q : Request) (later : t .base .0 ≤ q .
   abbrev old : ℕ → Entry
   old i = entryOf (t .entries) i
 
-  -- A listed id enters with its period and its R, and any other is blank.
+  -- A listed id enters with its period and its R, and any other with its shortfall alone.
   start-there : (i : ℕ) → i < IDS → isListed (old i) ≡ true → entryOf es i ≡ withOffset 0 (onward (old i) n)
   unfolding entering askedBound boundBefore
   start-there i k l =
-      start-at t (q .slot) (q .asks) i k ∙ ap (λ (x : ℕ). entering (old i) x (askOf (q .asks) i)) (sym (start-cycle t s i k (q .slot) later))
-      ∙ ap (entering (old i) (cond (isListed (old i)) (shortfallAfter (old i) n) 0)) (same i k) ∙ rw l
+      start-at t (q .slot) (q .asks) i k ∙ ap (λ (x : ℕ). entering (old i) x (askOf (q .asks) i)) (sym (shortfall-cycle t s i k (q .slot) later))
+      ∙ ap (entering (old i) (shortfallAfter (old i) n)) (same i k) ∙ rw l
 
-  start-absent : (i : ℕ) → i < IDS → isListed (old i) ≡ false → entryOf es i ≡ noEntry
+  start-absent : (i : ℕ) → i < IDS → isListed (old i) ≡ false → entryOf es i ≡ absentEntry (shortfallAt t i (q .slot))
   unfolding entering
-  start-absent i k l = start-at t (q .slot) (q .asks) i k ∙ ap (entering (old i) (startShortfall t (q .slot) i)) (same i k) ∙ rw l
+  start-absent i k l = start-at t (q .slot) (q .asks) i k ∙ ap (entering (old i) (shortfallAt t i (q .slot))) (same i k) ∙ rw l
 
   -- Who is listed stays so.
   same-listed : (i : ℕ) → i < IDS → isListed (entryOf es i) ≡ true → isListed (old i) ≡ true
@@ -98,7 +98,8 @@ module _ (t : Timetable) (s : Sound t) (q : Request) (later : t .base .0 ≤ q .
 
   -- Nobody is behind, for every field is short.
   none-behind : (i : ℕ) → i < IDS → Behind (entryOf es i) → ⊥
-  none-behind i k = short-kept t s (q .slot) later (q .asks) i k (ap (λ (a : Ask). a .bound) (same i k))
+  none-behind i k b =
+      true-false (same-listed i k (b .0)) (short-behind t s (q .slot) later (q .asks) i k (ap (λ (a : Ask). a .bound) (same i k)) b .0)
 
   -- The weights are the slices of one cycle.
   weights : (m : ℕ) → m ≤ IDS → weightSum es m ≡ slicesSum (t .entries) m WHOLE
@@ -109,8 +110,8 @@ module _ (t : Timetable) (s : Sound t) (q : Request) (later : t .base .0 ≤ q .
       one : (b : Bool) → isListed (old m) ≡ b → weight (entryOf es m) ≡ slicesAfter (old m) WHOLE
       one true l = ap weight (start-there m (omega arith) l) ∙ sym (slices-weight (old m) (s .ranged .listed m (omega arith) l))
       one false l =
-          ap weight (start-absent m (omega arith) l) ∙ weight-blank
-          ∙ sym (ap (λ (e : Entry). slicesAfter e WHOLE) (s .ranged .blank m (omega arith) l) ∙ slices-blank WHOLE)
+          ap weight (start-absent m (omega arith) l) ∙ weight-absent (shortfallAt t m (q .slot))
+          ∙ sym (ap (λ (e : Entry). slicesAfter e WHOLE) (s .ranged .absent m (omega arith) l .zero) ∙ slices-absent (old m .shortfall) WHOLE)
 
   not-over : (i : ℕ) → i < IDS → weightSum es (suc i) ≤ WHOLE
   not-over i k = omega (arith, weights (suc i) (omega arith), slices-fit (t .entries) (s .apart) (suc i) WHOLE (omega arith))
@@ -178,7 +179,9 @@ module _ (t : Timetable) (s : List ℕ) (area : ℕ) (z : isSound t ≡ true) (s
             share _ _ (settle-entry es (there-fit .ranged) (there-fit .entries) ps rule4 i k (ap isListed e ∙ l) ∙ ap (withOffset o) e)
         at false l =
             let e = start-absent t x asked later same i k l in
-            share _ _ (settle-unlisted es (there-fit .ranged) (there-fit .entries) ps rule4 i k (ap isListed e) ∙ e ∙ sym (x .ranged .blank i k l))
+            let f = settle-unlisted es (there-fit .ranged) (there-fit .entries) ps rule4 i k (ap isListed e) ∙ e in
+            let g = x .ranged .absent i k l .zero in
+            (ap (λ (y : Entry). y .period) f ∙ sym (ap (λ (y : Entry). y .period) g), ap (λ (y : Entry). y .bound) f ∙ sym (ap (λ (y : Entry). y .bound) g))
 
   pub granted : (answer t s area .number ≡ ACCEPTED) × (answer t s area .timetable .length ≡ 0)
       × ((i : ℕ) → i < IDS

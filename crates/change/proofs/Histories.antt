@@ -10,7 +10,7 @@ use Rattle.change.proofs.Answers.{accepted-continues}
 use Rattle.change.specs.Change.{answer}
 use Rattle.change.specs.Controller.{Sent, send, historyOf}
 use Rattle.numbers.specs.Numbers.{ACCEPTED}
-use Rattle.timetable.proofs.Run.{Valid}
+use Rattle.timetable.proofs.InForce.{Valid}
 use Rattle.timetable.specs.History.{History, present}
 
 module _ (h : History) (q : Sent) where

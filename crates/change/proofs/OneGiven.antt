@@ -68,7 +68,7 @@ start-one : (t : Timetable) (q : Request) (es fs : List Entry) → AtRequest t q
 start-one t q es fs p r = same-entries es fs (p .count) (r .count) (λ i k. at i k (ℕ-discrete (askOf (q .asks) i .period) 0))
   where
     at : (i : ℕ) → i < IDS → Dec (askOf (q .asks) i .period ≡ 0) → entryOf es i ≡ entryOf fs i
-    at i k (yes z) = p .blank i k z ∙ sym (r .blank i k z)
+    at i k (yes z) = p .absent i k z ∙ sym (r .absent i k z)
     at i k (no z) = enters-one t q i (entryOf es i) (entryOf fs i) (p .listed i k (omega arith)) (r .listed i k (omega arith))
 
 -- ---- rules 2 to 4
@@ -79,7 +79,7 @@ module _ (t : Timetable) (q : Request) (start : List Entry) (s : AtRequest t q s
   unplaced i k = at (ℕ-discrete (askOf (q .asks) i .period) 0)
     where
       at : Dec (askOf (q .asks) i .period ≡ 0) → entryOf start i .offset ≡ 0
-      at (yes z) = ap (λ (e : Entry). e .offset) (s .blank i k z)
+      at (yes z) = ap (λ (e : Entry). e .offset) (s .absent i k z)
       at (no z) = s .listed i k (omega arith) .offset
 
   -- Offsets by rule 4 after a transition by rule 3 are a placement.
@@ -138,7 +138,7 @@ module _ (t : Timetable) (q : Request) (start : List Entry) (s : AtRequest t q s
             (k, ap isListed e ∙ lt-ltb 0 (entryOf start i .period) (omega (arith, s .listed i k h .period)))
 
         at : (i : ℕ) → i < IDS → Dec (askOf (q .asks) i .period ≡ 0) → entryOf (x .entries) i ≡ entryOf (y .entries) i
-        at i k (yes z) = p .blank i k z ∙ sym (r .blank i k z)
+        at i k (yes z) = p .absent i k z ∙ sym (r .absent i k z)
         at i k (no z) =
             let o : entryOf (x .entries) i .offset ≡ entryOf (y .entries) i .offset =
             rule-four-one es (walked-ranged start (s .count) ranged unplaced (x .owners) (x .length) (p .transition))

@@ -28,7 +28,7 @@ use Rattle.timetable.proofs.Filling.{Filled}
 use Rattle.timetable.proofs.ScanLaws.{first-more, first-end, first-here}
 use Rattle.timetable.specs.declared.Entry.{Entry}
 use Rattle.timetable.specs.declared.Timetable.{Timetable}
-use Rattle.timetable.specs.Timetable.{noEntry, entryOf, isListed, weight, each, shortfallAfter, startShortfall}
+use Rattle.timetable.specs.Timetable.{absentEntry, noEntry, entryOf, isListed, weight, each, shortfallAt}
 
 -- ---- one entry
 
@@ -48,19 +48,10 @@ pub given-bound : (old : Entry) (a : Ask) → a .bound ≢ 0 → a .bound ≡ as
 unfolding askedBound
 given-bound old a e = rw (ne-eqb (a .bound) 0 e)
 
--- The shortfall with which an entry enters a change n slots after the base.
-abbrev pub entersWith : Entry → ℕ → ℕ
-entersWith e n = cond (isListed e) (shortfallAfter e n) 0
-
-pub listed-shortfall : (old : Entry) (n s : ℕ) → isListed old ≡ true → s ≡ shortfallAfter old n → s ≡ entersWith old n
-listed-shortfall old n s l e = rw l e
-
-pub new-shortfall : (old : Entry) (n s : ℕ) → isListed old ≡ false → s ≡ 0 → s ≡ entersWith old n
-new-shortfall old n s l e = rw l e
-
-pub enter-none : (old : Entry) (start : ℕ) (ask : Ask) → ask .period ≡ 0 → noEntry ≡ entering old start ask
+-- The entry with which an id enters a change, not asked for and asked for.
+pub enter-absent : (old : Entry) (start : ℕ) (ask : Ask) (s : ℕ) → ask .period ≡ 0 → s ≡ start → absentEntry s ≡ entering old start ask
 unfolding entering
-enter-none old start ask e = rw (le-ltb 0 (ask .period) (omega (arith, e)))
+enter-absent old start ask s e q = ap absentEntry q ∙ rw (le-ltb 0 (ask .period) (omega (arith, e)))
 
 pub enter-asked : (old : Entry) (start : ℕ) (ask : Ask) (b s : ℕ) → ask .period ≢ 0 → b ≡ askedBound old ask
     → s ≡ start
@@ -73,7 +64,7 @@ enter-asked old start ask b s h p q =
 
 -- The entries below an id have entered.
 abbrev pub entered : Timetable → CoreSlot → List Ask → ℕ → List Entry
-entered t slot asks id = each (λ i e. entering (entryOf (t .entries) i) (startShortfall t slot i) (askOf asks i)) id (replicate IDS noEntry)
+entered t slot asks id = each (λ i e. entering (entryOf (t .entries) i) (shortfallAt t i slot) (askOf asks i)) id (replicate IDS noEntry)
 
 -- Once the shortfall of each id is put in, the list is that of the shortfalls.
 pub shortfalls-all : (es : List Entry) → length es ≡ IDS → (n : ℕ) (l : List ℕ) → IDS ≤ n → Filled (λ i. entryOf es i .shortfall) n l → l ≡ shortfallsOf es

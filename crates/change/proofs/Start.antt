@@ -22,15 +22,16 @@ use Rattle.slots.specs.declared.CoreSlot.{CoreSlot}
 use Rattle.slots.specs.Limits.{IDS, LONGEST, WHOLE, LARGEST-BOUND}
 use Rattle.timetable.proofs.Entries.{length-each, each-at}
 use Rattle.timetable.proofs.Ranges.{Period, InRange, period-pos}
-use Rattle.timetable.proofs.Sound.{Ranged}
+use Rattle.timetable.proofs.Since.{owes-small}
+use Rattle.timetable.proofs.Sound.{Absent, Ranged, Sound}
 use Rattle.timetable.specs.declared.Entry.{Entry}
 use Rattle.timetable.specs.declared.Timetable.{Timetable}
-use Rattle.timetable.specs.Timetable.{noEntry, entryOf, isListed, weight, startShortfall}
+use Rattle.timetable.specs.Timetable.{absentEntry, noEntry, entryOf, isListed, weight, shortfallAt}
 use Rattle.transition.proofs.Plans.{Fit}
 
 -- The entry with which an asked id starts.
 abbrev pub asked : Timetable → CoreSlot → ℕ → Ask → Entry
-asked t slot i a = record { period = a .period; offset = 0; bound = askedBound (entryOf (t .entries) i) a; shortfall = startShortfall t slot i }
+asked t slot i a = record { period = a .period; offset = 0; bound = askedBound (entryOf (t .entries) i) a; shortfall = shortfallAt t i slot }
 
 -- A bound from 1 to 8.
 abbrev pub Bound : ℕ → Type 0
@@ -53,7 +54,7 @@ module _ (t : Timetable) (slot : CoreSlot) (asks : List Ask) where
   unfolding startEntries
   length-start = length-each _ IDS (replicate IDS noEntry) ∙ length-replicate IDS noEntry
 
-  pub start-at : (i : ℕ) → i < IDS → entryOf (startEntries t slot asks) i ≡ entering (entryOf (t .entries) i) (startShortfall t slot i) (askOf asks i)
+  pub start-at : (i : ℕ) → i < IDS → entryOf (startEntries t slot asks) i ≡ entering (entryOf (t .entries) i) (shortfallAt t i slot) (askOf asks i)
   unfolding startEntries
   start-at i k = each-at _ IDS (replicate IDS noEntry) (omega (arith, length-replicate IDS noEntry)) i k
 
@@ -66,24 +67,36 @@ module _ (t : Timetable) (slot : CoreSlot) (asks : List Ask) where
       at : (b : Bool) → ltb 0 (askOf asks i .period) ≡ b
           → (0 < askOf asks i .period) × (entryOf (startEntries t slot asks) i ≡ asked t slot i (askOf asks i))
       at true e = (ltb-true 0 (askOf asks i .period) e, start-at i k ∙ rw e)
-      at false e = let z : entryOf (startEntries t slot asks) i ≡ noEntry = start-at i k ∙ rw e in absurd (true-false l (ap isListed z))
+      at false e = let z : entryOf (startEntries t slot asks) i ≡ absentEntry (shortfallAt t i slot) = start-at i k ∙ rw e in absurd (true-false l (ap isListed z))
 
-  -- An id that does not is blank.
-  start-blank : (i : ℕ) → i < IDS → isListed (entryOf (startEntries t slot asks) i) ≡ false → entryOf (startEntries t slot asks) i ≡ noEntry
+  -- An id that does not has its shortfall and nothing else.
+  start-absent : (i : ℕ) → i < IDS → isListed (entryOf (startEntries t slot asks) i) ≡ false
+      → entryOf (startEntries t slot asks) i ≡ absentEntry (shortfallAt t i slot)
   unfolding entering
-  start-blank i k l = at (ltb 0 (askOf asks i .period)) refl
+  start-absent i k l = at (ltb 0 (askOf asks i .period)) refl
     where
-      at : (b : Bool) → ltb 0 (askOf asks i .period) ≡ b → entryOf (startEntries t slot asks) i ≡ noEntry
+      at : (b : Bool) → ltb 0 (askOf asks i .period) ≡ b → entryOf (startEntries t slot asks) i ≡ absentEntry (shortfallAt t i slot)
       at true e =
           let z : entryOf (startEntries t slot asks) i ≡ asked t slot i (askOf asks i) = start-at i k ∙ rw e in
           absurd (true-false e (sym (ap isListed z) ∙ l))
       at false e = start-at i k ∙ rw e
 
-  -- Where the entries before are in range and nobody is behind, the entries are in range.
-  pub start-ranged : Ranged (t .entries) → AsksRange asks → ((i : ℕ) → i < IDS → Behind (entryOf (startEntries t slot asks) i) → ⊥)
-      → Ranged (startEntries t slot asks)
-  start-ranged before r n = record { listed = listed; blank = start-blank }
+  -- Every id enters with its shortfall at the slot.
+  pub start-shortfall : (i : ℕ) → i < IDS → entryOf (startEntries t slot asks) i .shortfall ≡ shortfallAt t i slot
+  start-shortfall i k = at (isListed (entryOf (startEntries t slot asks) i)) refl
     where
+      at : (b : Bool) → isListed (entryOf (startEntries t slot asks) i) ≡ b → entryOf (startEntries t slot asks) i .shortfall ≡ shortfallAt t i slot
+      at true l = ap (λ (e : Entry). e .shortfall) (start-listed i k l .1)
+      at false l = ap (λ (e : Entry). e .shortfall) (start-absent i k l)
+
+  -- Where the timetable is sound, the slot not before its base and nobody is behind, the entries are in range.
+  pub start-ranged : Sound t → t .base .0 ≤ slot .0 → AsksRange asks → ((i : ℕ) → i < IDS → Behind (entryOf (startEntries t slot asks) i) → ⊥)
+      → Ranged (startEntries t slot asks)
+  start-ranged before later r n = record { listed = listed; absent = absent }
+    where
+      absent : (i : ℕ) → i < IDS → isListed (entryOf (startEntries t slot asks) i) ≡ false → Absent (entryOf (startEntries t slot asks) i)
+      absent i k l = subst Absent (sym (start-absent i k l)) (record { zero = refl; below = owes-small t before i k slot later })
+
       es : List Entry
       es = startEntries t slot asks
 
@@ -96,7 +109,7 @@ module _ (t : Timetable) (slot : CoreSlot) (asks : List Ask) where
           let w = start-listed i k l in
           let a : Ask = askOf asks i in
           let p = period a (w .0) (r .each i k) in
-          let b = bound-range (entryOf (t .entries) i) (before .listed i k) a (p .1) in
+          let b = bound-range (entryOf (t .entries) i) (before .ranged .listed i k) a (p .1) in
           let fine : entryOf es i .shortfall < WHOLE * entryOf es i .bound = at (decLt (entryOf es i .shortfall) (WHOLE * entryOf es i .bound)) in
           subst InRange (sym (w .1))
           (record {
@@ -130,10 +143,10 @@ unfolding startsOf shortfallsOf startPlan
 start-count t r = length-map (startEntries t (r .slot) (r .asks)) (λ (e : Entry). e .shortfall) ∙ length-start t (r .slot) (r .asks)
 
 -- The plan of length 0 is fit.
-pub start-fit : (t : Timetable) (r : Request) → Ranged (t .entries) → RequestRange r
+pub start-fit : (t : Timetable) (r : Request) → Sound t → t .base .0 ≤ r .slot .0 → RequestRange r
     → ((i : ℕ) → i < IDS → Behind (entryOf (startEntries t (r .slot) (r .asks)) i) → ⊥) → Fit 0 (startPlan t r)
 unfolding startPlan
-start-fit t r before q n = record {
+start-fit t r before later q n = record {
   entries = length-start t (r .slot) (r .asks);
   places = length-replicate {A = ℕ} LONGEST 0;
   ranged = ranged;
@@ -143,9 +156,9 @@ start-fit t r before q n = record {
 }
   where
     ranged : Ranged (startEntries t (r .slot) (r .asks))
-    ranged = start-ranged t (r .slot) (r .asks) before (q .asks) n
+    ranged = start-ranged t (r .slot) (r .asks) before later (q .asks) n
 
     at : (i : ℕ) → i < IDS → (b : Bool) → isListed (entryOf (startEntries t (r .slot) (r .asks)) i) ≡ b
         → entryOf (startEntries t (r .slot) (r .asks)) i .offset ≡ 0
     at i k true l = ap (λ (e : Entry). e .offset) (start-listed t (r .slot) (r .asks) i k l .1)
-    at i k false l = ap (λ (e : Entry). e .offset) (ranged .blank i k l)
+    at i k false l = ap (λ (e : Entry). e .offset) (ranged .absent i k l .zero)

@@ -19,7 +19,7 @@ use Rattle.records.specs.Request.{askOf}
 use Rattle.slots.specs.Limits.{IDS, LONGEST}
 use Rattle.timetable.specs.declared.Entry.{Entry}
 use Rattle.timetable.specs.declared.Timetable.{Timetable}
-use Rattle.timetable.specs.Timetable.{entryOf, isListed, noEntry, startOf, startShortfall, withOffset}
+use Rattle.timetable.specs.Timetable.{absentEntry, entryOf, isListed, startOf, shortfallAt, withOffset}
 use Rattle.transition.specs.Reach.{AnyoneBreaks}
 use Rattle.transition.specs.RuleThree.{ByRuleThree, walkedTo}
 
@@ -36,14 +36,14 @@ pub data AsksBound (old : Entry) (asked bound : ℕ) : Type 0 where
 pub record Enters (t : Timetable) (q : Request) (i : ℕ) (e : Entry) : Type 0 where
   pub period : e .period ≡ askOf (q .asks) i .period
   pub bound : AsksBound (entryOf (t .entries) i) (askOf (q .asks) i .bound) (e .bound)
-  pub shortfall : e .shortfall ≡ startShortfall t (q .slot) i
+  pub shortfall : e .shortfall ≡ shortfallAt t i (q .slot)
   pub offset : e .offset ≡ 0
 
--- Rule 1: the entries at the request slot. Each id that the record lists enters, and every other entry is blank.
+-- Rule 1: the entries at the request slot. Each id that the record lists enters, and every other keeps its shortfall and nothing else.
 pub record AtRequest (t : Timetable) (q : Request) (es : List Entry) : Type 0 where
   pub count : length es ≡ IDS
   pub listed : (i : ℕ) → i < IDS → 0 < askOf (q .asks) i .period → Enters t q i (entryOf es i)
-  pub blank : (i : ℕ) → i < IDS → askOf (q .asks) i .period ≡ 0 → entryOf es i ≡ noEntry
+  pub absent : (i : ℕ) → i < IDS → askOf (q .asks) i .period ≡ 0 → entryOf es i ≡ absentEntry (shortfallAt t i (q .slot))
 
 -- A timetable by rules 2 to 4, from the entries that rule 1 gives.
 pub record ByRules (q : Request) (start : List Entry) (t : Timetable) : Type 0 where
@@ -62,10 +62,10 @@ pub record ByRules (q : Request) (start : List Entry) (t : Timetable) : Type 0 w
   -- the starts: the shortfalls at the request slot
   pub start-count : length (t .starts) ≡ IDS
   pub starts : (i : ℕ) → i < IDS → startOf t i ≡ entryOf start i .shortfall
-  -- each entry is the one walked to the base, at its offset, and blank where the record does not list the id
+  -- each entry is the one walked to the base, at its offset, and where the record does not list the id the one at the request slot
   pub count : length (t .entries) ≡ IDS
   pub kept : (i : ℕ) → i < IDS → entryOf (t .entries) i ≡ withOffset (entryOf (t .entries) i .offset) (entryOf (walkedTo start (t .owners) (t .length)) i)
-  pub blank : (i : ℕ) → i < IDS → askOf (q .asks) i .period ≡ 0 → entryOf (t .entries) i ≡ noEntry
+  pub absent : (i : ℕ) → i < IDS → askOf (q .asks) i .period ≡ 0 → entryOf (t .entries) i ≡ entryOf start i
 
 -- An acceptance: a timetable by the rules, number and place 0, a try for each length up to the one accepted, and the answer record in the area.
 pub record Accepted (t : Timetable) (q : Request) (before : List ℕ) (r : Outcome) (after : List ℕ) : Type 0 where

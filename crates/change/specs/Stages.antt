@@ -21,7 +21,7 @@ use Rattle.slots.specs.Shortfall.{keeps}
 use Rattle.timetable.specs.declared.Entry.{Entry}
 use Rattle.timetable.specs.declared.Timetable.{Timetable}
 use Rattle.timetable.specs.Sound.{isSound}
-use Rattle.timetable.specs.Timetable.{noEntry, entryOf, isListed, weight, startShortfall, each}
+use Rattle.timetable.specs.Timetable.{absentEntry, noEntry, entryOf, isListed, weight, shortfallAt, each}
 
 -- The R as before: the one with which the timetable lists the id, and 1 for an id that it does not list.
 unfoldable pub boundBefore : Entry → ℕ
@@ -31,16 +31,17 @@ boundBefore old = cond (isListed old) (old .bound) 1
 unfoldable pub askedBound : Entry → Ask → ℕ
 askedBound old a = cond (eqb (a .bound) 0) (boundBefore old) (a .bound)
 
--- The entry with which an id enters a change, from its start there: the new weight and R are in force from there on; one that is not asked for is forgotten.
+-- The entry with which an id enters a change, from its start there: the new weight and R are in force from there on; one that is not asked for keeps its
+-- shortfall and nothing else.
 unfoldable pub entering : Entry → ℕ → Ask → Entry
 entering old start ask =
     cond (isAsked ask)
     (record { period = ask .period; offset = 0; bound = askedBound old ask; shortfall = start })
-    noEntry
+    (absentEntry start)
 
 -- The entries at the request slot.
 unfoldable pub startEntries : Timetable → CoreSlot → List Ask → List Entry
-startEntries t slot asks = each (λ i e. entering (entryOf (t .entries) i) (startShortfall t slot i) (askOf asks i)) IDS (replicate IDS noEntry)
+startEntries t slot asks = each (λ i e. entering (entryOf (t .entries) i) (shortfallAt t i slot) (askOf asks i)) IDS (replicate IDS noEntry)
 
 -- The running sum of the weights, ids rising: those below n.
 unfoldable pub weightSum : List Entry → ℕ → ℕ

@@ -1,6 +1,6 @@
 // The stages before the search, in the order of docs/RULES.md 7.2: an unsound timetable, a small area, the fields, then 6, 7 and 8. The lowest stage wins.
 ghost use lib.ListN.{length};
-ghost use mathlib.Core.Bool.{true, cond};
+ghost use mathlib.Core.Bool.{true};
 ghost use mathlib.Core.Path.{_≡_};
 ghost use Prim.Native.Nat.{_≤_};
 ghost use Rattle.change.specs.Change.{startPlan, startsOf};
@@ -46,7 +46,7 @@ pub fn start_plan(t: Timetable, asked: Request, starts: &mut [u16; Timetable::ID
     ensures { λ r. ⌜ (r ≡ startPlan t asked) × (now (starts .exit) ≡ startsOf t asked) ⌝ }
 {
     let elapsed = asked.slot.0 - t.base.0;
-    let none = Entry::none();
+    let none = Entry::absent(0);
     let mut entries = [none; Timetable::IDS];
     let mut id: usize = 0;
     while id < Timetable::IDS {
@@ -73,17 +73,14 @@ pub fn verdict_listed(entries: [Entry; Timetable::IDS]) -> Verdict
     behind(entries)
 }
 
-// The entry with which an id enters the change: the new period and bound, with the shortfall that it has; nothing where it is not asked for.
+// The entry with which an id enters the change, with the shortfall that it has: the new period and bound; none of these where it is not asked for.
 fn enter(old: Entry, elapsed: u64, ask: Ask) -> Entry
     requires { ⌜ (isListed old ≡ true → entryInRange old ≡ true) ⌝ }
-    ensures { λ r. ⌜ r ≡ entering old (cond (isListed old) (shortfallAfter old elapsed) 0) ask ⌝ }
+    ensures { λ r. ⌜ r ≡ entering old (shortfallAfter old elapsed) ask ⌝ }
 {
+    let shortfall = old.shortfall_after(elapsed);
     if ask.period == 0 {
-        return Entry::none();
-    }
-    let mut shortfall = 0;
-    if old.is_listed() {
-        shortfall = old.shortfall_after(elapsed);
+        return Entry::absent(shortfall);
     }
     Entry {
         period: ask.period,

@@ -23,7 +23,7 @@ use Rattle.slots.specs.Limits.{IDS}
 use Rattle.timetable.proofs.Cycle.{cyclic-residue}
 use Rattle.timetable.proofs.Meet.{entries-meet}
 use Rattle.timetable.proofs.Ranges.{InRange, period-dvd}
-use Rattle.timetable.proofs.Sound.{Ranged, Apart, cyclic-listed}
+use Rattle.timetable.proofs.Sound.{Absent, Apart, Ranged, cyclic-listed}
 use Rattle.timetable.specs.declared.Entry.{Entry}
 use Rattle.timetable.specs.Timetable.{entryOf, isListed, lastOffset, withOffset, cyclic}
 
@@ -203,7 +203,7 @@ module _ (es : List Entry) (r : Ranged es) (size : length es ≡ IDS) (ps : List
   pub settle-ranged : Ranged (settle es ps)
   settle-ranged = record {
     listed = λ i k l. let m = sym (settle-listed i k) ∙ l in subst InRange (sym (settle-entry i k m)) (settled-range i (k, m));
-    blank = λ i k l. let m = sym (settle-listed i k) ∙ l in settle-unlisted i k m ∙ r .blank i k m;
+    absent = λ i k l. let m = sym (settle-listed i k) ∙ l in subst Absent (sym (settle-unlisted i k m)) (r .absent i k m);
   }
 
   -- and no two of them share a cyclic slot.

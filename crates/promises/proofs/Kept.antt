@@ -17,7 +17,7 @@ use Rattle.archive.proofs.RequestPlaces.{request-written, request-written-one}
 use Rattle.archive.proofs.WrittenBack.{accepted-whole, handed-lists, written-back}
 use Rattle.archive.specs.AnswerRead.{readAnswer}
 use Rattle.change.proofs.Answers.{Gets, refused, accepted, no-slot, no-length, gets, accepted-continues, record-accepted, record-none, refusal-number}
-use Rattle.change.proofs.AsBefore.{behind-in-full}
+use Rattle.change.proofs.AsBefore.{behind-named}
 use Rattle.change.proofs.GivenLaws.{at-request, gives, wanting-number}
 use Rattle.change.proofs.Granted.{granted}
 use Rattle.change.proofs.Histories.{history-valid}
@@ -59,7 +59,7 @@ use Rattle.slots.specs.Below.{count}
 use Rattle.slots.specs.Clocks.{coreSlot, sliceCount}
 use Rattle.slots.specs.Limits.{IDS, WHOLE, AREA, LAST-SLOT}
 use Rattle.slots.specs.Slots.{entitlement, supply, shortfall}
-use Rattle.timetable.proofs.Listing.{empty-sound, in-force-sound, present-in-force, present-sound, since-weights}
+use Rattle.timetable.proofs.InForce.{empty-sound, in-force-sound, present-in-force, present-sound}
 use Rattle.timetable.proofs.Owner.{serves-one}
 use Rattle.timetable.proofs.Run.{base-later, kept-run, present-run, slices-run}
 use Rattle.timetable.proofs.Since.{shortfall-base, shortfall-request}
@@ -69,7 +69,7 @@ use Rattle.timetable.specs.declared.Timetable.{Timetable}
 use Rattle.timetable.specs.History.{present, inForce, runOf}
 use Rattle.timetable.specs.Owner.{ownerNumber}
 use Rattle.timetable.specs.Sound.{entriesInRange}
-use Rattle.timetable.specs.Timetable.{lists, ownerAt, slicesAt}
+use Rattle.timetable.specs.Timetable.{ownerAt, slicesAt}
 use Rattle.transition.proofs.Reach.{tries-count}
 use Rattle.transition.specs.declared.Plan.{Plan}
 use Rattle.transition.specs.Reach.{isSearched, HasPlacement, PassedOver, SlotBreaks}
@@ -115,14 +115,14 @@ sound-stays = record {
 -- ---- 2 and 3
 
 pub windows : Windows
-windows sent i a n listed since =
+windows sent i a n listed =
     let h = historyOf sent in
-    kept-windows (runOf h) i a n (kept-run h (history-valid sent) i (a + n) (listed n (omega arith))) since
+    kept-windows (runOf h) i a n (kept-run h (history-valid sent) i (a + n) listed)
 
 pub one-owner : OneOwner
 one-owner sent x i j ki kj p q =
     let h = historyOf sent in
-    serves-one (inForce h x) (in-force-sound h (history-valid sent) x .0 .apart) x i j ki kj p q
+    serves-one (inForce h x) (in-force-sound h (history-valid sent) x .sound .apart) x i j ki kj p q
 
 -- ---- 4
 
@@ -209,28 +209,23 @@ one-form-kept = record { one = one-form; back = round-trip; range = read-in-rang
 
 pub kept-shortfall : KeptShortfall
 kept-shortfall sent = record {
-  at-request = λ i k l. let h = historyOf sent in sym (present-run h (history-valid sent) i k l (present h .request .0) (omega arith) ∙ shortfall-request (present h) i);
-  at-base = λ i k l.
+  at-request = λ i k. let h = historyOf sent in sym (present-run h (history-valid sent) i k (present h .request .0) (omega arith) ∙ shortfall-request (present h) i);
+  at-base = λ i k.
       let h = historyOf sent in
       let v = history-valid sent in
-      sym (present-run h v i k l (present h .base .0) (base-later h v) ∙ shortfall-base (present h) (present-sound h v .0) i k);
-  most = λ i a n k l b since.
+      sym (present-run h v i k (present h .base .0) (base-later h v) ∙ shortfall-base (present h) (present-sound h v .sound) i k);
+  most = λ i a n k b.
       let h = historyOf sent in
       subst (λ (x : ℕ). entitlement (runOf h) i a n ≤ WHOLE * supply (runOf h) i a n + x)
-      (present-run h (history-valid sent) i k l (a + n) b)
-      (window-le (runOf h) i a n since);
-  attained = λ i x k l b.
+      (present-run h (history-valid sent) i k (a + n) b)
+      (window-le (runOf h) i a n);
+  attained = λ i x k b.
       let h = historyOf sent in
-      let v = history-valid sent in
-      let w = attains (runOf h) i x in
-      let f : inForce h (w .from + w .size) ≡ present h =
-      present-in-force h (w .from + w .size) (omega (arith, w .ends)) in (
+      let w = attains (runOf h) i x in (
         w .from,
         w .size,
         w .ends,
-        w .since,
-        since-weights h v i (w .from) (w .size) k (w .since) (ap (λ (t : Timetable). lists t i) f ∙ l),
-        w .equal ∙ ap (λ (y : ℕ). WHOLE * supply (runOf h) i (w .from) (w .size) + y) (present-run h v i k l x b),
+        w .equal ∙ ap (λ (y : ℕ). WHOLE * supply (runOf h) i (w .from) (w .size) + y) (present-run h (history-valid sent) i k x b),
       );
 }
 
@@ -244,14 +239,14 @@ queries = record {
       let v = history-valid sent in
       record {
         owner = λ x l b.
-            rw (sound-is _ (present-sound h v .0), le-ltb LAST-SLOT x l, le-ltb x (present h .request .0) b)
+            rw (sound-is _ (present-sound h v .sound), le-ltb LAST-SLOT x l, le-ltb x (present h .request .0) b)
             (ap (λ (t : Timetable). record { number = ACCEPTED; place = 0; owner = ownerNumber (ownerAt t (coreSlot x)) })
             (sym (present-in-force h x b)));
         standing = λ i x k l b li.
-            rw (sound-is _ (present-sound h v .0), lt-leb IDS i k, le-ltb LAST-SLOT x l, le-ltb x (present h .request .0) b, li)
+            rw (sound-is _ (present-sound h v .sound), lt-leb IDS i k, le-ltb LAST-SLOT x l, le-ltb x (present h .request .0) b, li)
             (ap₂ (λ (a n : ℕ). record { number = ACCEPTED; place = 0; shortfall = a; slices = sliceCount n })
-            (sym (present-run h v i k li x b))
-            (sym (slices-run h v i k li (x - present h .request .0))));
+            (sym (present-run h v i k x b))
+            (sym (slices-run h v i k (x - present h .request .0))));
       };
   owner = owner-given;
   owner-only = owner-only;
@@ -389,7 +384,7 @@ as-before = record {
   full = λ t s z read. full-request t s (sound-from t z) read;
   one = λ t s s′ s″ f g. full-one t s s′ s″ f g;
   behind = λ t s area e.
-      behind-in-full t s (length area) (record { number = outcome t s area .number; place = outcome t s area .place })
+      behind-named t s (length area) (record { number = outcome t s area .number; place = outcome t s area .place })
       (stages-kept .refused-only t s area (readRequest s) (request-read s) (λ z. omega (arith, e, z)) (λ z. omega (arith, e, z)) (λ z. omega (arith, e, z))) e;
 }
 

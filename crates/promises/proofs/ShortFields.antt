@@ -157,4 +157,4 @@ there-request t sound slot limit later high low =
   where
     range : (i : ℕ) → i < IDS → (b : Bool) → isListed (entryOf (t .entries) i) ≡ b → AskRange (asThere (entryOf (t .entries) i))
     range i k true l = inr (sound .ranged .listed i k l .period, omega arith)
-    range i k false l = inl (ap (λ (e : Entry). e .period) (sound .ranged .blank i k l), refl)
+    range i k false l = inl (ap (λ (e : Entry). e .period) (sound .ranged .absent i k l .zero), refl)

@@ -1,7 +1,7 @@
 -- docs/RULES.md 1.4 to 1.11: the promises, as statements about the definitions. Each speaks of the slots and of the rules, never of how something is
 -- computed; proofs/Kept.antt proves each under its name. Two wrong programs that a promise shuts out stand under it.
 use lib.ListN.{getD, length, take}
-use mathlib.Core.Bool.{true}
+use mathlib.Core.Bool.{false, true}
 use mathlib.Core.List.{List, [], _∷_}
 use mathlib.Core.Logic.{_↔_, _≢_, _⊎_}
 use mathlib.Core.Option.{none, some}
@@ -41,7 +41,7 @@ use Rattle.slots.specs.Below.{count}
 use Rattle.slots.specs.Clocks.{coreSlot, sliceCount}
 use Rattle.slots.specs.declared.CoreSlot.{CoreSlot}
 use Rattle.slots.specs.Limits.{IDS, LONGEST, WHOLE, AREA, LARGEST-BOUND, LARGEST-K, LAST-SLOT, IDLE}
-use Rattle.slots.specs.Slots.{entitlement, supply, shortfall, Since, Listed, KeepsBound}
+use Rattle.slots.specs.Slots.{entitlement, supply, shortfall, Listed, KeepsBound}
 use Rattle.timetable.specs.declared.Entry.{Entry}
 use Rattle.timetable.specs.declared.Timetable.{Timetable}
 use Rattle.timetable.specs.History.{History, present, inForce, runOf}
@@ -63,10 +63,11 @@ pub record SoundStays : Type 0 where
   pub rest : (t : Timetable) (s area : List ℕ) (n : ℕ) → outcome t s area .written ≤ n → getD (areaAfter t s area) n 0 ≡ getD area n 0
 
 -- 2. After any requests from an empty controller, take any window of slots, from slot a to its last slot a + n, however long and across as many changes
--- as it holds, since id i was last newly listed and while it stays so: its slots exceed its entitlement less its bound, the one in force in the last slot.
--- (Shuts out: shortfall counted from the request slot; the old weight kept until the base; a controller that does the first request and then only says 0.)
+-- and absences as it holds, if id i is listed in its last slot: its slots exceed its entitlement less its bound, the one in force in the last slot.
+-- (Shuts out: shortfall counted from the request slot; a debt cleared on leaving; the old weight kept until the base; a controller that does the first
+-- request and then only says 0.)
 abbrev pub WindowsKept : History → Type 0
-WindowsKept h = (i a n : ℕ) → Listed (runOf h) i a n → Since (runOf h) i a n → KeepsBound (runOf h) i a n
+WindowsKept h = (i a n : ℕ) → Listed (runOf h) i (a + n) → KeepsBound (runOf h) i a n
 
 -- So after any requests from an empty controller.
 abbrev pub Windows : Type 0
@@ -142,16 +143,18 @@ pub record OneForm : Type 0 where
   pub range : (s : List ℕ) → readRequest s .reading ≡ Whole → RequestRange (readRequest s .request)
   pub damaged : (s : List ℕ) (r : Refusal) → readRequest s .reading ≡ unread r → RefusalRange s r
 
--- 9. The shortfall means what the dictionary says: from the request slot on, at every slot, it is the largest excess of entitlement over supply among the
--- windows of the listing that end there, the empty one included, counted across changes; and the kept figures are the run's own, each at its slot.
--- (Shuts out: a deficit counted from the last change; surplus banked below zero; the shortfall at the base kept for the request slot.)
+-- 9. The shortfall means what the dictionary says, of every id, listed or not: from the request slot on, at every slot, it is the largest excess of
+-- entitlement over supply among all windows that end there, the empty one included, back to the empty controller and across changes and absences; and the
+-- kept figures are the run's own, each at its slot.
+-- (Shuts out: a deficit counted from the last change; a debt that grows in an absence; surplus banked below zero; the shortfall at the base kept for the
+-- request slot.)
 pub record ShortfallMeans (h : History) : Type 0 where
-  pub at-request : (i : ℕ) → i < IDS → lists (present h) i ≡ true → startOf (present h) i ≡ shortfall (runOf h) i (present h .request .0)
-  pub at-base : (i : ℕ) → i < IDS → lists (present h) i ≡ true → entryOf (present h .entries) i .shortfall ≡ shortfall (runOf h) i (present h .base .0)
-  pub most : (i a n : ℕ) → i < IDS → lists (present h) i ≡ true → present h .request .0 ≤ a + n → Since (runOf h) i a n
+  pub at-request : (i : ℕ) → i < IDS → startOf (present h) i ≡ shortfall (runOf h) i (present h .request .0)
+  pub at-base : (i : ℕ) → i < IDS → entryOf (present h .entries) i .shortfall ≡ shortfall (runOf h) i (present h .base .0)
+  pub most : (i a n : ℕ) → i < IDS → present h .request .0 ≤ a + n
       → entitlement (runOf h) i a n ≤ WHOLE * supply (runOf h) i a n + shortfallAt (present h) i (coreSlot (a + n))
-  pub attained : (i x : ℕ) → i < IDS → lists (present h) i ≡ true → present h .request .0 ≤ x
-      → (a : ℕ) × (n : ℕ) × (a + n ≡ x) × Since (runOf h) i a n × Listed (runOf h) i a n
+  pub attained : (i x : ℕ) → i < IDS → present h .request .0 ≤ x
+      → (a : ℕ) × (n : ℕ) × (a + n ≡ x)
       × (entitlement (runOf h) i a n ≡ WHOLE * supply (runOf h) i a n + shortfallAt (present h) i (coreSlot x))
 
 -- So after any requests from an empty controller.
@@ -275,13 +278,16 @@ pub record InFull (t : Timetable) (s s′ : List ℕ) : Type 0 where
   pub asks : (i : ℕ) → i < IDS → AskInFull (entryOf (t .entries) i) (askOf (readRequest s .request .asks) i) (askOf (readRequest s′ .request .asks) i)
 
 -- 16. As before. For every timetable and area a request with short fields gets exactly the outcome of the request in full, and leaves exactly its area; and
--- for a sound timetable every request that is read has a request in full, and one only. And 8 names no id with a short field.
+-- for a sound timetable every request that is read has a request in full, and one only. And 8 names an id with a short field only where it is not listed
+-- and returns with a debt of a whole slot or more.
 -- (Shuts out: R 1 kept for a listed id; the R of an id that left; the R of another id.)
 pub record AsBefore : Type 0 where
   pub same : (t : Timetable) (s s′ area : List ℕ) → InFull t s s′ → (outcome t s′ area ≡ outcome t s area) × (areaAfter t s′ area ≡ areaAfter t s area)
   pub full : (t : Timetable) (s : List ℕ) → isSound t ≡ true → readRequest s .reading ≡ Whole → (s′ : List ℕ) × InFull t s s′
   pub one : (t : Timetable) (s s′ s″ : List ℕ) → InFull t s s′ → InFull t s s″ → readRequest s″ ≡ readRequest s′
-  pub behind : (t : Timetable) (s area : List ℕ) → outcome t s area .number ≡ BEHIND → 0 < askOf (readRequest s .request .asks) (outcome t s area .place) .bound
+  pub behind : (t : Timetable) (s area : List ℕ) → outcome t s area .number ≡ BEHIND
+      → (0 < askOf (readRequest s .request .asks) (outcome t s area .place) .bound)
+      ⊎ ((lists t (outcome t s area .place) ≡ false) × (WHOLE ≤ shortfallAt t (outcome t s area .place) (readRequest s .request .slot)))
 
 -- The request s asks a timetable for what is there: it is read, its slot is not before the base, and it lists exactly the present ids, each with its
 -- present period and by a short field.

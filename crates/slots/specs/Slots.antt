@@ -1,9 +1,8 @@
 -- docs/RULES.md 2, the slot layer: what a run of slots is, and what entitlement, supply and shortfall mean over it (definitions 4.2 to 4.4 of the 2021 paper).
 -- Nothing here knows of timetables, requests or rules. The lab's "deficit" is the shortfall below, and nothing else.
-use mathlib.Core.Bool.{Bool, true, false, cond}
+use mathlib.Core.Bool.{Bool, true, false}
 use mathlib.Core.Option.{Option, none, some}
-use mathlib.Core.Path.{_≡_}
-use Prim.Native.Nat.{ℕ, zero, suc, _+_, _*_, _≤_, _<_}
+use Prim.Native.Nat.{ℕ, zero, suc, _+_, _*_, _<_}
 use lib.Dec.{eqb}
 use Rattle.slots.specs.Limits.{WHOLE}
 use Rattle.slots.specs.Shortfall.{overSlot}
@@ -16,8 +15,6 @@ pub record Slot : Type 0 where
   pub weight : ℕ → ℕ
   -- each id's bound R in it
   pub bound : ℕ → ℕ
-  -- whether an id is newly listed at its start
-  pub newly : ℕ → Bool
 
 -- A run: its slots, numbered from 0.
 abbrev pub Run : Type 0
@@ -47,23 +44,14 @@ unfoldable pub supply : Run → ℕ → ℕ → ℕ → ℕ
 supply run i a zero = 0
 supply run i a (suc n) = supply run i a n + one (own run i (a + n))
 
--- The shortfall of i at the start of slot t: 0 at slot 0 and wherever i is newly listed, and one slot further otherwise.
+-- The shortfall of i at the start of slot t: 0 at slot 0, the empty controller's first, and one slot further after each slot, whether i is listed in it or not.
 unfoldable pub shortfall : Run → ℕ → ℕ → ℕ
 shortfall run i zero = 0
-shortfall run i (suc t) =
-    cond (run (suc t) .newly i) 0 (overSlot (own run i t) (run t .weight i) (shortfall run i t))
+shortfall run i (suc t) = overSlot (own run i t) (run t .weight i) (shortfall run i t)
 
--- The shortfall of i at the end of slot t, under the weight and the bound in force in t.
-unfoldable pub shortfallOver : Run → ℕ → ℕ → ℕ
-shortfallOver run i t = overSlot (own run i t) (run t .weight i) (shortfall run i t)
-
--- From slot a to slot a + n nothing starts i's count anew: it is newly listed at none of the n slots after a.
-abbrev pub Since : Run → ℕ → ℕ → ℕ → Type 0
-Since run i a n = (m : ℕ) → 0 < m → m ≤ n → run (a + m) .newly i ≡ false
-
--- i is listed in each of the slots a to a + n.
-abbrev pub Listed : Run → ℕ → ℕ → ℕ → Type 0
-Listed run i a n = (m : ℕ) → m ≤ n → 0 < run (a + m) .weight i
+-- i is listed in slot t.
+abbrev pub Listed : Run → ℕ → ℕ → Type 0
+Listed run i t = 0 < run t .weight i
 
 -- The window from slot a to its last slot a + n keeps i's bound: its slots exceed its entitlement less its bound, the one in force in its last slot.
 abbrev pub KeepsBound : Run → ℕ → ℕ → ℕ → Type 0

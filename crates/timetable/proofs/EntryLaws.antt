@@ -8,7 +8,8 @@ use mathlib.Core.Path.{_≡_, refl, sym, ap, _∙_}
 use native.Mathlib.Decide.{decLt}
 use native.Mathlib.Nat.{add-mul, mul-assoc, div-zero, div-le-self, div-lt-iff-lt-mul, min-eq-left, min-eq-right, mod-lt, mul-comm, mul-div-mul-right, mul-le-mul, mul-le-mul-right, mul-lt-mul-of-pos-right}
 use native.Mathlib.Omega.{arith}
-use Prim.Native.Nat.{ℕ, _+_, _-_, _*_, _/_, _%_, _^_, _≤_, _<_}
+use Prim.Native.Nat.{ℕ, zero, suc, _+_, _-_, _*_, _/_, _%_, _^_, _≤_, _<_}
+use Rattle.slots.proofs.Windows.{over-still}
 use Rattle.slots.specs.Limits.{WHOLE, LARGEST-BOUND}
 use Rattle.slots.specs.Shortfall.{keeps, overSlot, weightOf, roomOf, lastOffsetOf}
 use Rattle.timetable.proofs.Cycle.{shortfall-before, shortfall-after, weight-pos}
@@ -116,6 +117,12 @@ module _ (e : Entry) (n : ℕ) where
   pub cyclic-test : (e .period ≡ 0 → ⊥) → cyclic e n ≡ eqb (n % e .period) (e .offset)
   unfolding cyclic
   cyclic-test h = ap (λ (b : Bool). b && eqb (n % e .period) (e .offset)) (listed (e .period) h)
+
+-- The shortfall of an entry that is not listed stays.
+pub after-absent : (e : Entry) (n : ℕ) → e .period ≡ 0 → shortfallAfter e n ≡ e .shortfall
+unfolding shortfallAfter
+after-absent e zero h = refl
+after-absent e (suc n) h = rw (cyclic-none e n h, weight-none (e .period) h) (over-still (shortfallAfter e n)) ∙ after-absent e n h
 
 -- The shortfall of an entry in range, at its weight w.
 module _ (e : Entry) (h : entryInRange e ≡ true) (w : ℕ) (q : w ≡ weight e) where

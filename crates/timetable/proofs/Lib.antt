@@ -6,8 +6,8 @@ pub mod Sound
 pub mod Owner
 pub mod Onward
 pub mod Since
+pub mod InForce
 pub mod Run
-pub mod Listing
 pub mod ScanLaws
 pub mod EntryLaws
 pub mod SoundLaws

@@ -13,7 +13,7 @@ use Rattle.timetable.proofs.Cycle.{slices-after, weight-pos}
 use Rattle.timetable.proofs.Ranges.{InRange, period-le, period-whole}
 use Rattle.timetable.proofs.Sound.{Apart}
 use Rattle.timetable.specs.declared.Entry.{Entry}
-use Rattle.timetable.specs.Timetable.{cyclic, entryOf, noEntry, slicesAfter, weight}
+use Rattle.timetable.specs.Timetable.{absentEntry, cyclic, entryOf, slicesAfter, weight}
 
 -- In one cycle an entry in range has as many slices as its weight says,
 pub slices-weight : (e : Entry) → InRange e → slicesAfter e WHOLE ≡ weight e
@@ -26,15 +26,15 @@ slices-weight e r =
     let q : (WHOLE - e .offset - 1) / p ≡ v = div-eq-of-lt-le p (omega (arith, r .inside, k, suc-mul v p)) (omega (arith, r .inside, k)) in
     omega (arith, slices-after e (r .inside) WHOLE (omega (arith, r .inside, period-le p (r .period))), q, w)
 
--- and a blank one has none, and no weight.
-pub weight-blank : weight noEntry ≡ 0
+-- and one that is not listed has none, and no weight.
+pub weight-absent : (s : ℕ) → weight (absentEntry s) ≡ 0
 unfolding weightOf
-weight-blank = refl
+weight-absent s = refl
 
-pub slices-blank : (n : ℕ) → slicesAfter noEntry n ≡ 0
+pub slices-absent : (s n : ℕ) → slicesAfter (absentEntry s) n ≡ 0
 unfolding slicesAfter cyclic one
-slices-blank zero = refl
-slices-blank (suc n) = omega (arith, slices-blank n)
+slices-absent s zero = refl
+slices-absent s (suc n) = omega (arith, slices-absent s n)
 
 module _ (es : List Entry) where
   -- The slices that the ids below m have had in the n slots from the base.

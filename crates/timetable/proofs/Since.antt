@@ -11,15 +11,17 @@ use Rattle.slots.proofs.Below.{count-most}
 use Rattle.slots.specs.Below.{count}
 use Rattle.slots.specs.Clocks.{coreSlot, sliceCount}
 use Rattle.slots.specs.declared.CoreSlot.{CoreSlot}
-use Rattle.slots.specs.Limits.{IDS, LONGEST}
+use Rattle.slots.specs.Limits.{IDS, LONGEST, WHOLE, LARGEST-BOUND}
 use Rattle.slots.specs.Shortfall.{overSlot}
 use Rattle.slots.specs.Slots.{one}
+use Rattle.timetable.proofs.EntryLaws.{after-absent}
+use Rattle.timetable.proofs.Onward.{kept-after}
 use Rattle.timetable.proofs.Owner.{serves-before, serves-from}
 use Rattle.timetable.proofs.Sound.{Sound}
 use Rattle.timetable.proofs.WalkLaws.{walk-small}
 use Rattle.timetable.specs.declared.Entry.{Entry}
 use Rattle.timetable.specs.declared.Timetable.{Timetable}
-use Rattle.timetable.specs.Timetable.{entryOf, isListed, weight, startOf, cyclic, serves, shortfallAfter, slicesAfter, shortfallSince, shortfallAt, slicesAt, startShortfall, transitionShortfall}
+use Rattle.timetable.specs.Timetable.{entryOf, isListed, weight, startOf, cyclic, serves, shortfallAfter, slicesAfter, shortfallSince, shortfallAt, slicesAt, transitionShortfall}
 
 -- A number that passes counts one.
 pub one-cond : (b : Bool) → cond b 1 0 ≡ one b
@@ -114,10 +116,20 @@ module _ (t : Timetable) (s : Sound t) (i : ℕ) where
       let z : t .base .0 - t .base .0 ≡ 0 = omega arith in
       sym (shortfall-cycle k (coreSlot (t .base .0)) (omega arith)) ∙ ap (shortfallAfter e) z
 
-  -- A change begins with it, where the id is listed.
-  pub start-cycle : i < IDS → (x : CoreSlot) → t .base .0 ≤ x .0 → cond (isListed e) (shortfallAfter e (x .0 - t .base .0)) 0 ≡ startShortfall t x i
-  unfolding startShortfall
-  start-cycle k x b = ap (λ (y : ℕ). cond (isListed e) y 0) (shortfall-cycle k x b)
+  -- From the base on every id's shortfall, listed or not, is below 256 x 8.
+  pub owes-small : i < IDS → (x : CoreSlot) → t .base .0 ≤ x .0 → shortfallAt t i x < WHOLE * LARGEST-BOUND
+  owes-small k x b = at (isListed e) refl
+    where
+      n : ℕ
+      n = x .0 - t .base .0
+
+      at : (l : Bool) → isListed e ≡ l → shortfallAt t i x < WHOLE * LARGEST-BOUND
+      at true l =
+          let r = s .ranged .listed i k l in
+          omega (arith, shortfall-cycle k x b, kept-after e r n, r .bound-high)
+      at false l =
+          let a = s .ranged .absent i k l in
+          omega (arith, shortfall-cycle k x b, after-absent e n (ap (λ (f : Entry). f .period) (a .zero)), a .below)
 
   -- A walk from the start of a listed id is small.
   pub start-small : i < IDS → isListed e ≡ true → (v : ℕ) → v ≡ weight e → (n : ℕ) → n ≤ LONGEST → startOf t i + v * n < 65536

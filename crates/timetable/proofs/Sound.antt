@@ -11,18 +11,23 @@ use native.Mathlib.Nat.{mod-lt, mod-mod-of-dvd}
 use native.Mathlib.Omega.{arith}
 use Prim.Native.Nat.{ℕ, _+_, _*_, _%_, _≤_, _<_, _∣_}
 use Rattle.slots.proofs.Below.{and-both, every-at, every-all, true-false}
-use Rattle.slots.specs.Limits.{IDS, LONGEST, WHOLE, LAST-SLOT}
+use Rattle.slots.specs.Limits.{IDS, LONGEST, WHOLE, LARGEST-BOUND, LAST-SLOT}
 use Rattle.slots.specs.Shortfall.{keeps}
 use Rattle.timetable.proofs.Ranges.{InRange, period-divides, in-range-from, in-range-is}
 use Rattle.timetable.specs.declared.Entry.{Entry}
 use Rattle.timetable.specs.declared.Timetable.{Timetable}
-use Rattle.timetable.specs.Sound.{requestInRange, lengthInRange, baseAsStated, ownersListed, entryInRange, entryBlank, entriesInRange, shareNone, noneShared, unusedOwnersZero, startInRange, startsInRange, walkArrives, isSound}
-use Rattle.timetable.specs.Timetable.{noEntry, entryOf, startOf, isListed, lists, weight, cyclic, transitionShortfall}
+use Rattle.timetable.specs.Sound.{requestInRange, lengthInRange, baseAsStated, ownersListed, entryInRange, entryAbsent, entriesInRange, shareNone, noneShared, unusedOwnersZero, startInRange, startsInRange, walkArrives, isSound}
+use Rattle.timetable.specs.Timetable.{absentEntry, entryOf, startOf, isListed, lists, weight, cyclic, transitionShortfall}
 
--- Every listed id's entry is in range, and every other id's entry is all zero.
+-- An entry that is all zero but for a shortfall below 2,048.
+pub record Absent (e : Entry) : Type 0 where
+  pub zero : e ≡ absentEntry (e .shortfall)
+  pub below : e .shortfall < WHOLE * LARGEST-BOUND
+
+-- Every listed id's entry is in range, and every other id's is as above.
 pub record Ranged (es : List Entry) : Type 0 where
   pub listed : (i : ℕ) → i < IDS → isListed (entryOf es i) ≡ true → InRange (entryOf es i)
-  pub blank : (i : ℕ) → i < IDS → isListed (entryOf es i) ≡ false → entryOf es i ≡ noEntry
+  pub absent : (i : ℕ) → i < IDS → isListed (entryOf es i) ≡ false → Absent (entryOf es i)
 
 -- No two listed ids share a cyclic slot, however far from the base.
 abbrev pub Apart : List Entry → Type 0
@@ -38,42 +43,51 @@ pub record Sound (t : Timetable) : Type 0 where
   pub apart : Apart (t .entries)
   pub unused : (n : ℕ) → n < LONGEST → t .length ≤ n → getD (t .owners) n 0 ≡ 0
   pub start-kept : (i : ℕ) → i < IDS → lists t i ≡ true → startOf t i < WHOLE * entryOf (t .entries) i .bound
-  pub start-zero : (i : ℕ) → i < IDS → lists t i ≡ false → startOf t i ≡ 0
+  pub start-same : (i : ℕ) → i < IDS → lists t i ≡ false → startOf t i ≡ entryOf (t .entries) i .shortfall
   pub arrives : (i : ℕ) → i < IDS
       → transitionShortfall (t .owners) i (weight (entryOf (t .entries) i)) (startOf t i) (t .length) ≡ entryOf (t .entries) i .shortfall
 
 -- ---- entries
 
--- An entry with no period and nothing else is the blank one.
-blank-entry : (e : Entry) → isListed e ≡ false → entryBlank e ≡ true → e ≡ noEntry
-unfolding entryBlank
-blank-entry e l h =
-    let a = and-both (eqb (e .offset) 0 && eqb (e .bound) 0) (eqb (e .shortfall) 0) h in
+-- An entry that is not listed, from its test to what it says and back.
+absent-from : (e : Entry) → isListed e ≡ false → entryAbsent e ≡ true → Absent e
+unfolding entryAbsent keeps
+absent-from e l h =
+    let a = and-both (eqb (e .offset) 0 && eqb (e .bound) 0) (ltb (e .shortfall) (WHOLE * LARGEST-BOUND)) h in
     let b = and-both (eqb (e .offset) 0) (eqb (e .bound) 0) (a .0) in
     let p : e .period ≡ 0 = omega (arith, ltb-false 0 (e .period) l) in
     let o : e .offset ≡ 0 = eqb-true _ _ (b .0) in
     let r : e .bound ≡ 0 = eqb-true _ _ (b .1) in
-    let s : e .shortfall ≡ 0 = eqb-true _ _ (a .1) in
-    λ i. record { period = p i; offset = o i; bound = r i; shortfall = s i }
+    record {
+      zero = λ i. record { period = p i; offset = o i; bound = r i; shortfall = e .shortfall };
+      below = ltb-true _ _ (a .1);
+    }
+
+absent-is : (e : Entry) → Absent e → entryAbsent e ≡ true
+unfolding entryAbsent keeps
+absent-is e a =
+    ap₂ _&&_
+    (ap₂ _&&_ (eq-eqb (e .offset) 0 (ap (λ (f : Entry). f .offset) (a .zero))) (eq-eqb (e .bound) 0 (ap (λ (f : Entry). f .bound) (a .zero))))
+    (lt-ltb (e .shortfall) (WHOLE * LARGEST-BOUND) (a .below))
 
 pub ranged-from : (es : List Entry) → entriesInRange es ≡ true → Ranged es
 unfolding entriesInRange
-ranged-from es h = record { listed = λ i k l. in-range-from (entryOf es i) (at i k true l); blank = λ i k l. blank-entry (entryOf es i) l (at i k false l) }
+ranged-from es h = record { listed = λ i k l. in-range-from (entryOf es i) (at i k true l); absent = λ i k l. absent-from (entryOf es i) l (at i k false l) }
   where
     test : ℕ → Bool
-    test i = cond (isListed (entryOf es i)) (entryInRange (entryOf es i)) (entryBlank (entryOf es i))
+    test i = cond (isListed (entryOf es i)) (entryInRange (entryOf es i)) (entryAbsent (entryOf es i))
 
-    at : (i : ℕ) → i < IDS → (b : Bool) → isListed (entryOf es i) ≡ b → cond b (entryInRange (entryOf es i)) (entryBlank (entryOf es i)) ≡ true
+    at : (i : ℕ) → i < IDS → (b : Bool) → isListed (entryOf es i) ≡ b → cond b (entryInRange (entryOf es i)) (entryAbsent (entryOf es i)) ≡ true
     at i k b e =
-        subst (λ (c : Bool). cond c (entryInRange (entryOf es i)) (entryBlank (entryOf es i)) ≡ true) e (every-at test IDS h i k)
+        subst (λ (c : Bool). cond c (entryInRange (entryOf es i)) (entryAbsent (entryOf es i)) ≡ true) e (every-at test IDS h i k)
 
 pub ranged-is : (es : List Entry) → Ranged es → entriesInRange es ≡ true
-unfolding entriesInRange entryBlank
+unfolding entriesInRange
 ranged-is es r = every-all _ IDS (λ i k. at i k (isListed (entryOf es i)) refl)
   where
-    at : (i : ℕ) → i < IDS → (b : Bool) → isListed (entryOf es i) ≡ b → cond (isListed (entryOf es i)) (entryInRange (entryOf es i)) (entryBlank (entryOf es i)) ≡ true
+    at : (i : ℕ) → i < IDS → (b : Bool) → isListed (entryOf es i) ≡ b → cond (isListed (entryOf es i)) (entryInRange (entryOf es i)) (entryAbsent (entryOf es i)) ≡ true
     at i k true e = rw e (in-range-is (entryOf es i) (r .listed i k e))
-    at i k false e = rw e (rw (r .blank i k e))
+    at i k false e = rw e (absent-is (entryOf es i) (r .absent i k e))
 
 -- ---- shared slots
 
@@ -143,17 +157,17 @@ apart-is es a = every-all _ IDS (λ i k. every-all _ i (λ j l. at i j k l (isLi
 -- ---- the starts
 
 start-from : (e : Entry) (start : ℕ) → startInRange e start ≡ true
-    → (isListed e ≡ true → start < WHOLE * e .bound) × (isListed e ≡ false → start ≡ 0)
+    → (isListed e ≡ true → start < WHOLE * e .bound) × (isListed e ≡ false → start ≡ e .shortfall)
 unfolding startInRange keeps
-start-from e start h = ((λ l. ltb-true start (WHOLE * e .bound) (rw l at h)), (λ l. eqb-true start 0 (rw l at h)))
+start-from e start h = ((λ l. ltb-true start (WHOLE * e .bound) (rw l at h)), (λ l. eqb-true start (e .shortfall) (rw l at h)))
 
-start-is : (e : Entry) (start : ℕ) → (isListed e ≡ true → start < WHOLE * e .bound) → (isListed e ≡ false → start ≡ 0) → startInRange e start ≡ true
+start-is : (e : Entry) (start : ℕ) → (isListed e ≡ true → start < WHOLE * e .bound) → (isListed e ≡ false → start ≡ e .shortfall) → startInRange e start ≡ true
 unfolding startInRange keeps
 start-is e start f g = at (isListed e) refl
   where
-    at : (b : Bool) → isListed e ≡ b → cond b (ltb start (WHOLE * e .bound)) (eqb start 0) ≡ true
+    at : (b : Bool) → isListed e ≡ b → cond b (ltb start (WHOLE * e .bound)) (eqb start (e .shortfall)) ≡ true
     at true l = lt-ltb start (WHOLE * e .bound) (f l)
-    at false l = eq-eqb start 0 (g l)
+    at false l = eq-eqb start (e .shortfall) (g l)
 
 -- ---- the whole timetable
 
@@ -179,7 +193,7 @@ sound-from t h =
       apart = apart-from (t .entries) r (b .1);
       unused = λ n k l. at n l (every-at (λ n. ltb n (t .length) || eqb (getD (t .owners) n 0) 0) LONGEST (a .1) n k);
       start-kept = λ i k. start-from (entryOf (t .entries) i) (startOf t i) (s i k) .0;
-      start-zero = λ i k. start-from (entryOf (t .entries) i) (startOf t i) (s i k) .1;
+      start-same = λ i k. start-from (entryOf (t .entries) i) (startOf t i) (s i k) .1;
       arrives = λ i k. eqb-true _ _ (every-at _ IDS (y .1) i k);
     }
   where
@@ -198,7 +212,7 @@ sound-is t s =
     (ranged-is (t .entries) (s .ranged)))
     (apart-is (t .entries) (s .apart)))
     (every-all _ LONGEST (λ n k. at n k (decLt n (t .length)))))
-    (every-all _ IDS (λ i k. start-is (entryOf (t .entries) i) (startOf t i) (s .start-kept i k) (s .start-zero i k))))
+    (every-all _ IDS (λ i k. start-is (entryOf (t .entries) i) (startOf t i) (s .start-kept i k) (s .start-same i k))))
     (every-all _ IDS (λ i k. eq-eqb _ _ (s .arrives i k)))
   where
     at : (n : ℕ) → n < LONGEST → Dec (n < t .length) → ltb n (t .length) || eqb (getD (t .owners) n 0) 0 ≡ true

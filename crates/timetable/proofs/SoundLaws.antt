@@ -16,7 +16,7 @@ use Rattle.slots.specs.Shortfall.{keeps}
 use Rattle.timetable.proofs.EntryLaws.{unlisted, listed}
 use Rattle.timetable.specs.declared.Entry.{Entry}
 use Rattle.timetable.specs.declared.Timetable.{Timetable}
-use Rattle.timetable.specs.Sound.{requestInRange, lengthInRange, baseAsStated, ownersListed, isPeriod, isBound, entryInRange, entryBlank, entriesInRange, noneShared, unusedOwnersZero, startInRange, startsInRange, walkArrives, isSound}
+use Rattle.timetable.specs.Sound.{requestInRange, lengthInRange, baseAsStated, ownersListed, isPeriod, isBound, entryInRange, entryAbsent, entriesInRange, noneShared, unusedOwnersZero, startInRange, startsInRange, walkArrives, isSound}
 use Rattle.timetable.specs.Timetable.{noEntry, entryOf, startOf, isListed, weight}
 
 -- ---- one entry
@@ -87,35 +87,35 @@ module _ (e : Entry) where
       unfolding entryInRange
       range-kept h = rw (a, b, lt-ltb (e .offset) (e .period) h)
 
-  -- All zero, test by test.
-  pub blank-offset : (e .offset ≡ 0 → ⊥) → entryBlank e ≡ false
-  unfolding entryBlank
-  blank-offset a = rw (ne-eqb (e .offset) 0 a)
+  -- Not listed, test by test.
+  pub absent-offset : (e .offset ≡ 0 → ⊥) → entryAbsent e ≡ false
+  unfolding entryAbsent
+  absent-offset a = rw (ne-eqb (e .offset) 0 a)
 
-  pub blank-bound : e .offset ≡ 0 → (e .bound ≡ 0 → ⊥) → entryBlank e ≡ false
-  unfolding entryBlank
-  blank-bound a b = rw (eq-eqb (e .offset) 0 a, ne-eqb (e .bound) 0 b)
+  pub absent-bound : e .offset ≡ 0 → (e .bound ≡ 0 → ⊥) → entryAbsent e ≡ false
+  unfolding entryAbsent
+  absent-bound a b = rw (eq-eqb (e .offset) 0 a, ne-eqb (e .bound) 0 b)
 
-  pub blank-shortfall : e .offset ≡ 0 → e .bound ≡ 0 → entryBlank e ≡ eqb (e .shortfall) 0
-  unfolding entryBlank
-  blank-shortfall a b = rw (eq-eqb (e .offset) 0 a, eq-eqb (e .bound) 0 b)
+  pub absent-shortfall : e .offset ≡ 0 → e .bound ≡ 0 → entryAbsent e ≡ ltb (e .shortfall) (WHOLE * LARGEST-BOUND)
+  unfolding entryAbsent keeps
+  absent-shortfall a b = rw (eq-eqb (e .offset) 0 a, eq-eqb (e .bound) 0 b)
 
-  -- In range or all zero, as it is listed.
+  -- In range, or all zero but for a shortfall in range, as it is listed.
   abbrev pub formed : Bool
-  formed = cond (isListed e) (entryInRange e) (entryBlank e)
+  formed = cond (isListed e) (entryInRange e) (entryAbsent e)
 
   pub formed-listed : isListed e ≡ true → formed ≡ entryInRange e
   formed-listed h = rw h
 
-  pub formed-blank : isListed e ≡ false → formed ≡ entryBlank e
-  formed-blank h = rw h
+  pub formed-absent : isListed e ≡ false → formed ≡ entryAbsent e
+  formed-absent h = rw h
 
   -- A start, as the entry is listed.
   pub bears-listed : (start : ℕ) → isListed e ≡ true → ltb start (WHOLE * e .bound) ≡ startInRange e start
   unfolding startInRange keeps
   bears-listed start h = rw h
 
-  pub bears-unlisted : (start : ℕ) → isListed e ≡ false → eqb start 0 ≡ startInRange e start
+  pub bears-unlisted : (start : ℕ) → isListed e ≡ false → eqb start (e .shortfall) ≡ startInRange e start
   unfolding startInRange
   bears-unlisted start h = rw h
 

@@ -13,6 +13,7 @@ use native.Mathlib.Numerals.{add-one}
 use native.Mathlib.Omega.{arith}
 use Prim.Native.Nat.{ℕ, zero, suc, _+_, _-_, _*_, _≤_, _<_}
 use Rattle.slots.proofs.Below.{count-most, every-at, true-false}
+use Rattle.slots.proofs.Windows.{over-still}
 use Rattle.slots.specs.Below.{count, every}
 use Rattle.slots.specs.Limits.{IDS, LONGEST, WHOLE, LARGEST-BOUND}
 use Rattle.slots.specs.Shortfall.{keeps, overSlot, weightOf}
@@ -21,7 +22,7 @@ use Rattle.timetable.proofs.Filling.{Filled}
 use Rattle.timetable.proofs.OwnerLaws.{listed-small}
 use Rattle.timetable.proofs.Ranges.{InRange}
 use Rattle.timetable.proofs.ScanLaws.{every-same}
-use Rattle.timetable.proofs.Sound.{ranged-from}
+use Rattle.timetable.proofs.Sound.{Absent, ranged-from}
 use Rattle.timetable.proofs.SoundLaws.{length-known}
 use Rattle.timetable.specs.declared.Entry.{Entry}
 use Rattle.timetable.specs.declared.Timetable.{Timetable}
@@ -57,22 +58,34 @@ pub walk-all : (owners : List ℕ) (i w start n m s : ℕ) → m ≤ n → n ≤
     → s ≡ transitionShortfall owners i w start m
 walk-all owners i w start n m s a b p = let k : n ≡ m = omega arith in rw k at p
 
+-- The walk of an id that has no weight and none of the slots stays where it starts.
+pub walk-absent : (owners : List ℕ) (i s n : ℕ) → ((k : ℕ) → k < n → i ≢ getD owners k 0) → transitionShortfall owners i 0 s n ≡ s
+unfolding transitionShortfall
+walk-absent owners i s zero h = refl
+walk-absent owners i s (suc n) h =
+    ap (λ (b : Bool). overSlot b 0 (transitionShortfall owners i 0 s n)) (ne-eqb i (getD owners n 0) (h n (omega arith)))
+    ∙ over-still (transitionShortfall owners i 0 s n)
+    ∙ walk-absent owners i s n (λ k l. h k (omega arith))
+
 -- What a walk of up to 64 slots comes to is small.
 pub walk-small : (p start n m : ℕ) → start < WHOLE * LARGEST-BOUND → m ≤ LONGEST → n ≤ m → start + weightOf p * n < 65536
 walk-small p start n m a b c = omega (arith, mul-le-mul {n₁ = weightOf p} {m₁ = n} {n₂ = WHOLE} {m₂ = LONGEST} (weight-le p) (omega arith))
 
 -- A start in range is below 256 x 8.
-start-below : (e : Entry) (start : ℕ) → (isListed e ≡ true → InRange e) → startInRange e start ≡ true → start < WHOLE * LARGEST-BOUND
+start-below : (e : Entry) (start : ℕ) → (isListed e ≡ true → InRange e) → (isListed e ≡ false → Absent e) → startInRange e start ≡ true
+    → start < WHOLE * LARGEST-BOUND
 unfolding startInRange keeps
-start-below e start f h = at (isListed e) refl
+start-below e start f g h = at (isListed e) refl
   where
     at : (b : Bool) → isListed e ≡ b → start < WHOLE * LARGEST-BOUND
     at true l = omega (arith, ltb-true start (WHOLE * e .bound) (rw l at h), f l .bound-high)
-    at false l = omega (arith, eqb-true start 0 (rw l at h))
+    at false l = omega (arith, eqb-true start (e .shortfall) (rw l at h), g l .below)
 
 pub starts-below : (t : Timetable) → Walkable t → startsInRange t ≡ true → (i : ℕ) → i < IDS → startOf t i < WHOLE * LARGEST-BOUND
 unfolding startsInRange
-starts-below t a h i k = start-below (entryOf (t .entries) i) (startOf t i) (ranged-from (t .entries) (a .entries) .listed i k) (every-at _ IDS h i k)
+starts-below t a h i k =
+    let r = ranged-from (t .entries) (a .entries) in
+    start-below (entryOf (t .entries) i) (startOf t i) (r .listed i k) (r .absent i k) (every-at _ IDS h i k)
 
 module _ (t : Timetable) (i : ℕ) where
   abbrev pub w : ℕ
@@ -188,7 +201,8 @@ starts-refused t owed e = record { in-range = e; unserved = λ z. absurd (true-f
 pub unserved-small : (t : Timetable) → Walkable t → (i : ℕ) → i < IDS → startInRange (entryOf (t .entries) i) (startOf t i) ≡ true
     → (v : ℕ) → v ≡ weight (entryOf (t .entries) i) → startOf t i + v * t .length < 65536
 unserved-small t a i k b v p =
-    let below = start-below (entryOf (t .entries) i) (startOf t i) (ranged-from (t .entries) (a .entries) .listed i k) b in
+    let r = ranged-from (t .entries) (a .entries) in
+    let below = start-below (entryOf (t .entries) i) (startOf t i) (r .listed i k) (r .absent i k) b in
     let small = walk-small (entryOf (t .entries) i .period) (startOf t i) (t .length) (t .length) below (length-known t (a .size)) (omega arith) in
     omega (arith, ap (λ (x : ℕ). x * t .length) p, small)
 

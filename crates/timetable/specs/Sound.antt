@@ -47,13 +47,13 @@ unfoldable pub entryInRange : Entry → Bool
 entryInRange e =
     isPeriod (e .period) && isBound (e .bound) && ltb (e .offset) (e .period) && keeps (e .bound) (e .shortfall + e .offset * weight e)
 
--- An unlisted entry all zero.
-unfoldable pub entryBlank : Entry → Bool
-entryBlank e = eqb (e .offset) 0 && eqb (e .bound) 0 && eqb (e .shortfall) 0
+-- An unlisted entry all zero but for a shortfall below 2,048: below 256 R for the largest R.
+unfoldable pub entryAbsent : Entry → Bool
+entryAbsent e = eqb (e .offset) 0 && eqb (e .bound) 0 && keeps LARGEST-BOUND (e .shortfall)
 
--- Listed entries in range, unlisted entries all zero.
+-- Listed entries in range, unlisted ones as above.
 unfoldable pub entriesInRange : List Entry → Bool
-entriesInRange es = every IDS (λ i. cond (isListed (entryOf es i)) (entryInRange (entryOf es i)) (entryBlank (entryOf es i)))
+entriesInRange es = every IDS (λ i. cond (isListed (entryOf es i)) (entryInRange (entryOf es i)) (entryAbsent (entryOf es i)))
 
 -- Two entries share no cyclic slot. (Every period divides 256, so 256 slots tell.)
 unfoldable pub shareNone : Entry → Entry → Bool
@@ -68,9 +68,9 @@ noneShared es =
 unfoldable pub unusedOwnersZero : Timetable → Bool
 unusedOwnersZero t = every LONGEST (λ n. ltb n (t .length) || eqb (getD (t .owners) n 0) 0)
 
--- The start of a listed entry below 256 R, that of an unlisted one zero.
+-- The start of a listed entry below 256 R, that of an unlisted one its shortfall at the base.
 unfoldable pub startInRange : Entry → ℕ → Bool
-startInRange e start = cond (isListed e) (keeps (e .bound) start) (eqb start 0)
+startInRange e start = cond (isListed e) (keeps (e .bound) start) (eqb start (e .shortfall))
 
 -- Every start so.
 unfoldable pub startsInRange : Timetable → Bool

@@ -15,9 +15,13 @@ use Rattle.slots.specs.Slots.{one}
 use Rattle.timetable.specs.declared.Entry.{Entry}
 use Rattle.timetable.specs.declared.Timetable.{Timetable}
 
--- The entry of an id that is not listed: all zero.
+-- The entry of an id that is not listed: all zero but for its shortfall.
+abbrev pub absentEntry : ℕ → Entry
+absentEntry s = record { period = 0; offset = 0; bound = 0; shortfall = s }
+
+-- The entry of an id that was never listed: all zero.
 abbrev pub noEntry : Entry
-noEntry = record { period = 0; offset = 0; bound = 0; shortfall = 0 }
+noEntry = absentEntry 0
 
 -- The empty timetable has request slot 0, length 0, nothing listed and every shortfall 0.
 abbrev pub emptyTimetable : Timetable
@@ -109,10 +113,6 @@ shortfallAt t i x = shortfallSince t i (x .0 - t .request .0)
 -- The slices that id i has had from the request slot up to the start of slot x: how many of these slots serve it.
 unfoldable pub slicesAt : Timetable → ℕ → CoreSlot → SliceCount
 slicesAt t i x = sliceCount (count (x .0 - t .request .0) (λ n. serves t (coreSlot (t .request .0 + n)) i))
-
--- The shortfall with which id i enters a change at slot x: a newly listed partition starts at 0.
-unfoldable pub startShortfall : Timetable → CoreSlot → ℕ → ℕ
-startShortfall t x i = cond (lists t i) (shortfallAt t i x) 0
 
 -- The shortfall of id i, at a weight, after n transition slots of these owners, from its shortfall at the request slot.
 unfoldable pub transitionShortfall : List ℕ → ℕ → ℕ → ℕ → ℕ → ℕ

@@ -68,11 +68,14 @@ impl Entry {
         phase(n, self.period) == (self.offset as u64)
     }
 
-    // Its shortfall n slots after the base, without a walk: nothing is paid before the first own slot, and each period after it repeats.
+    // Its shortfall n slots after the base, without a walk: one that is not listed keeps it; else nothing is paid before the first own slot, and each period after it repeats.
     pub fn shortfall_after(self, n: u64) -> u16
-        requires { ⌜ entryInRange self ≡ true ⌝ }
+        requires { ⌜ (isListed self ≡ true → entryInRange self ≡ true) ⌝ }
         ensures { λ r. ⌜ r ≡ shortfallAfter self n ⌝ }
     {
+        if self.period == 0 {
+            return self.shortfall;
+        }
         let w = self.weight();
         let offset = self.offset as u64;
         if n <= offset {

@@ -1,6 +1,6 @@
 // The timetable of one core: its limits, its fields and the empty one. Nothing here is refused.
 ghost use mathlib.Core.Path.{_≡_};
-ghost use Rattle.timetable.specs.Timetable.{emptyTimetable, noEntry};
+ghost use Rattle.timetable.specs.Timetable.{absentEntry, emptyTimetable};
 use slots::CoreSlot;
 
 mod figures; // figures.rt: the figures of one entry
@@ -19,15 +19,15 @@ pub struct Entry {
 }
 
 impl Entry {
-    // The entry of an id that is not listed: all zero.
-    pub fn none() -> Entry
-        ensures { λ r. ⌜ r ≡ noEntry ⌝ }
+    // The entry of an id that is not listed: all zero but for its shortfall, which is 0 where it was never listed.
+    pub fn absent(shortfall: u16) -> Entry
+        ensures { λ r. ⌜ r ≡ absentEntry shortfall ⌝ }
     {
         Entry {
             period: 0,
             offset: 0,
             bound: 0,
-            shortfall: 0,
+            shortfall,
         }
     }
 }
@@ -71,7 +71,7 @@ impl Timetable {
     pub fn empty() -> Timetable
         ensures { λ r. ⌜ r ≡ emptyTimetable ⌝ }
     {
-        let none = Entry::none();
+        let none = Entry::absent(0);
         Timetable {
             request: CoreSlot(0),
             length: 0,

@@ -8,7 +8,7 @@ ghost use Rattle.slots.specs.Below.{every};
 ghost use Rattle.slots.specs.Limits.{IDS, LONGEST};
 ghost use Rattle.slots.specs.Shortfall.{keeps};
 ghost use Rattle.timetable.specs.Marks.{OfCycle};
-ghost use Rattle.timetable.specs.Sound.{requestInRange, lengthInRange, baseAsStated, ownersListed, isPeriod, isBound, entryInRange, entryBlank, entriesInRange, noneShared, startInRange, startsInRange, walkArrives, isSound};
+ghost use Rattle.timetable.specs.Sound.{requestInRange, lengthInRange, baseAsStated, ownersListed, isPeriod, isBound, entryInRange, entryAbsent, entriesInRange, noneShared, startInRange, startsInRange, walkArrives, isSound};
 ghost use Rattle.timetable.specs.Taken.{Takes};
 ghost use Rattle.timetable.specs.Timetable.{entryOf, isListed, weight};
 ghost use Rattle.timetable.specs.Walk.{Walkable, Owed, StartsTaken};
@@ -73,7 +73,7 @@ impl Timetable {
         true
     }
 
-    // Each listed entry is in range and each other one all zero, and no two share a cyclic slot: each in turn takes its slots of one cycle, and finds none taken.
+    // Each listed entry is in range and each other one all zero but for a shortfall below 2,048, and no two share a cyclic slot: each in turn takes its slots of one cycle, and finds none taken.
     fn entries_fit(self) -> bool
         ensures { λ r. ⌜ r ≡ (entriesInRange (self .entries) && noneShared (self .entries)) ⌝ }
     {
@@ -104,7 +104,7 @@ impl Timetable {
         self.walk_arrives(owed)
     }
 
-    // Each listed id's start is below 256 R, and every other one is zero. Then what each would owe at the base if no transition slot were its own is put in: the start, and the weight for each slot.
+    // Each listed id's start is below 256 R, and every other one is the shortfall at the base. Then what each would owe at the base if no transition slot were its own is put in: the start, and the weight for each slot.
     fn take_starts(self, owed: &mut [u16; Timetable::IDS]) -> bool
         requires { ⌜ Walkable self × (length (now owed) ≡ IDS) ⌝ }
         ensures { λ r. ⌜ StartsTaken self r (now (owed .exit)) ⌝ }
@@ -174,14 +174,14 @@ fn unused_owners_zero(owners: &[u8; Timetable::LONGEST], size: u8) -> bool
 }
 
 impl Entry {
-    // In range where it is listed, and all zero where it is not.
+    // In range where it is listed, and all zero but for a shortfall below 2,048 where it is not.
     fn is_well_formed(self) -> bool
-        ensures { λ r. ⌜ r ≡ cond (isListed self) (entryInRange self) (entryBlank self) ⌝ }
+        ensures { λ r. ⌜ r ≡ cond (isListed self) (entryInRange self) (entryAbsent self) ⌝ }
     {
         if self.is_listed() {
             self.in_range()
         } else {
-            self.is_blank()
+            self.is_absent()
         }
     }
 
@@ -214,7 +214,7 @@ impl Entry {
         owed < whole * (self.bound as u32) * p
     }
 
-    // A start below 256 R where it is listed, and zero where it is not.
+    // A start below 256 R where it is listed, and the shortfall at the base where it is not.
     fn bears(self, start: u16) -> bool
         requires { ⌜ (isListed self ≡ true → entryInRange self ≡ true) ⌝ }
         ensures { λ r. ⌜ r ≡ startInRange self start ⌝ }
@@ -222,12 +222,12 @@ impl Entry {
         if self.is_listed() {
             return start < Timetable::WHOLE * (self.bound as u16);
         }
-        start == 0
+        start == self.shortfall
     }
 
-    // Offset, bound and shortfall are all zero.
-    fn is_blank(self) -> bool
-        ensures { λ r. ⌜ r ≡ entryBlank self ⌝ }
+    // Offset and bound are zero, and the shortfall is below 256 R for the largest R.
+    fn is_absent(self) -> bool
+        ensures { λ r. ⌜ r ≡ entryAbsent self ⌝ }
     {
         if self.offset != 0 {
             return false;
@@ -235,7 +235,7 @@ impl Entry {
         if self.bound != 0 {
             return false;
         }
-        self.shortfall == 0
+        self.shortfall < Timetable::WHOLE * (Timetable::LARGEST_BOUND as u16)
     }
 }
 

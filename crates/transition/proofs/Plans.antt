@@ -13,19 +13,25 @@ use native.Mathlib.Omega.{arith}
 use Prim.Native.Nat.{ℕ, suc, _*_, _≤_, _<_}
 use Rattle.placement.specs.Any.{Lists}
 use Rattle.slots.proofs.Below.{true-false}
+use Rattle.slots.proofs.Windows.{over-still}
 use Rattle.slots.specs.Limits.{IDS, LONGEST, WHOLE}
 use Rattle.slots.specs.Shortfall.{overSlot, weightOf}
 use Rattle.timetable.proofs.Entries.{length-each, each-at}
 use Rattle.timetable.proofs.Ranges.{InRange}
-use Rattle.timetable.proofs.Sound.{Ranged}
+use Rattle.timetable.proofs.Sound.{Absent, Ranged}
 use Rattle.timetable.specs.declared.Entry.{Entry}
-use Rattle.timetable.specs.Timetable.{noEntry, entryOf, isListed, weight}
+use Rattle.timetable.specs.Timetable.{absentEntry, noEntry, entryOf, isListed, weight}
 use Rattle.transition.proofs.UrgentRule.{Told, told, unmissed, room-bears, own-bears}
 use Rattle.transition.specs.declared.Plan.{Plan}
 use Rattle.transition.specs.RuleThree.{GoesTo, MostUrgent}
 use Rattle.transition.specs.Transition.{mostUrgent, isMissed, overEntry, overAll, longer}
 
 -- ---- one slot
+
+-- A slot of somebody else's leaves the entry of an id that is not listed as it is.
+over-absent : (e : Entry) → e ≡ absentEntry (e .shortfall) → overEntry false e ≡ e
+unfolding weightOf
+over-absent e a = ap (overEntry false) a ∙ ap absentEntry (over-still (e .shortfall)) ∙ sym a
 
 module _ (es : List Entry) (u : ℕ) where
   pub length-over : length (overAll es u) ≡ length es
@@ -61,7 +67,7 @@ module _ (es : List Entry) (u : ℕ) where
   -- so the entries stay in range.
   pub over-ranged : length es ≡ IDS → Ranged es → ((i : ℕ) → i < IDS → entryOf es i .offset ≡ 0) → GoesTo es u → Ranged (overAll es u)
   unfolding overSlot weightOf
-  over-ranged len r z g = record { listed = listed; blank = blank }
+  over-ranged len r z g = record { listed = listed; absent = absent }
     where
       over-in : (i : ℕ) → Lists es i → InRange (entryOf es i) → InRange (overEntry (eqb i u) (entryOf es i))
       over-in i l q = record {
@@ -77,14 +83,14 @@ module _ (es : List Entry) (u : ℕ) where
           let li : isListed (entryOf es i) ≡ true = sym (over-listed len i) ∙ l in
           subst InRange (sym (over-at len i k)) (over-in i (k, li) (r .listed i k li))
 
-      blank : (i : ℕ) → i < IDS → isListed (entryOf (overAll es u) i) ≡ false → entryOf (overAll es u) i ≡ noEntry
-      blank i k l =
+      absent : (i : ℕ) → i < IDS → isListed (entryOf (overAll es u) i) ≡ false → Absent (entryOf (overAll es u) i)
+      absent i k l =
           let li : isListed (entryOf es i) ≡ false = sym (over-listed len i) ∙ l in
           let ne : i ≢ u = λ e. true-false (g .urgent .listed) (ap (λ (x : ℕ). isListed (entryOf es x)) (sym e) ∙ li) in
-          over-at len i k ∙ ap (λ (b : Bool). overEntry b (entryOf es i)) (ne-eqb i u ne) ∙ ap (overEntry false) (r .blank i k li) ∙ still
-        where
-          still : overEntry false noEntry ≡ noEntry
-          still = refl
+          let a = r .absent i k li in
+          subst Absent
+          (sym (over-at len i k ∙ ap (λ (b : Bool). overEntry b (entryOf es i)) (ne-eqb i u ne) ∙ over-absent (entryOf es i) (a .zero)))
+          a
 
 -- ---- plans
 

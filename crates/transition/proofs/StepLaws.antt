@@ -136,7 +136,7 @@ owes-less es h i k = at (decided (isListed (entryOf es i))) (ranged-from es h)
   where
     at : (isListed (entryOf es i) ≡ true) ⊎ (isListed (entryOf es i) ≡ false) → Ranged es → entryOf es i .shortfall < WHOLE * LARGEST-BOUND
     at (inl l) r = let q = r .listed i k l in omega (arith, q .kept, q .bound-high)
-    at (inr l) r = rw (r .blank i k l) (omega arith)
+    at (inr l) r = r .absent i k l .below
 
 -- ---- the plan that follows
 

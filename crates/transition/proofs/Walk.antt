@@ -2,6 +2,8 @@
 use lib.Dec.{eqb}
 use lib.ListN.{getD}
 use lib.Seq.{getD-set-same, getD-set-other}
+use mathlib.Core.Bool.{false}
+use mathlib.Core.Logic.{_≢_}
 use mathlib.Core.Option.{Option, none, some}
 use mathlib.Core.Path.{_≡_, refl, sym, ap, ap₂, _∙_, subst}
 use native.Mathlib.Nat.{add-zero, add-suc}
@@ -11,8 +13,11 @@ use mathlib.Core.List.{List}
 use Prim.Native.Nat.{ℕ, zero, suc, _+_, _≤_, _<_}
 use Rattle.slots.specs.Limits.{IDS, LONGEST}
 use Rattle.slots.specs.Shortfall.{overSlot}
+use Rattle.slots.proofs.Below.{true-false}
+use Rattle.timetable.proofs.Shares.{weight-absent}
+use Rattle.timetable.proofs.WalkLaws.{walk-absent}
 use Rattle.timetable.specs.declared.Entry.{Entry}
-use Rattle.timetable.specs.Timetable.{entryOf, weight, withShortfall, transitionShortfall}
+use Rattle.timetable.specs.Timetable.{entryOf, isListed, weight, withShortfall, transitionShortfall}
 use Rattle.transition.proofs.Plans.{Fit, Step, Longer, longer-told, over-at}
 use Rattle.transition.proofs.Reach.{onward, reach-last, reach-fit}
 use Rattle.transition.specs.declared.Plan.{Plan}
@@ -97,3 +102,17 @@ module _ (plan : Plan) (f : Fit 0 plan) where
           here
           ∙ ap (overEntry (eqb i u)) (ih p (w .1))
           ∙ ap₂ (λ (o x : ℕ). withShortfall (overSlot (eqb i o) (weight s) x) s) own less
+
+  -- The entry of an id that is not listed stays as it is.
+  pub walked-absent : (n : ℕ) → n ≤ LONGEST → (q : Plan) → reach plan n ≡ some q → (i : ℕ) → i < IDS → isListed (entryOf (plan .entries) i) ≡ false
+      → entryOf (q .entries) i ≡ entryOf (plan .entries) i
+  walked-absent n l q e i k u =
+      let s : Entry = entryOf (plan .entries) i in
+      let w : weight s ≡ 0 = ap weight (f .ranged .absent i k u .zero) ∙ weight-absent (s .shortfall) in
+      let walk = walked n l q e i k in
+      let g = reach-fit n 0 plan q f (omega arith) e in
+      let other : (m : ℕ) → m < n → i ≢ getD (q .owners) m 0 =
+      λ m h z. true-false (g .served m (omega arith)) (ap (λ (j : ℕ). isListed (entryOf (q .entries) j)) (sym z) ∙ ap isListed walk ∙ u) in
+      walk
+      ∙ ap (λ (x : ℕ). withShortfall x s)
+      (ap (λ (v : ℕ). transitionShortfall (q .owners) i v (s .shortfall) n) w ∙ walk-absent (q .owners) i (s .shortfall) n other)

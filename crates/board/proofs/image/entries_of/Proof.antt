@@ -17,12 +17,12 @@ Inv-loop image entries₀ id₀ entries id = (id ≤ IDS) × (entries ≡ entrie
 abbrev μ-loop : tie.MeasureT-loop
 μ-loop image entries₀ id₀ entries id = IDS - id
 
-none-requires : tie.Need-none-requires Inv-loop μ-loop
-none-requires c κs = search needs
+absent-requires : tie.Need-absent-requires Inv-loop μ-loop
+absent-requires c κs = search needs
 
 loop-holds : tie.Need-loop-holds Inv-loop μ-loop
 unfolding each
-loop-holds c = (omega arith, ap (replicate IDS) (c .none .ensures))
+loop-holds c = (omega arith, ap (replicate IDS) (c .absent .ensures))
 
 mul-entry-of : tie.Need-mul-entry-of Inv-loop μ-loop
 mul-entry-of c = omega arith
@@ -59,7 +59,7 @@ entries-of-spec =
     (tie.spec
     Inv-loop
     μ-loop
-    none-requires
+    absent-requires
     loop-holds
     mul-entry-of
     add-entry-of

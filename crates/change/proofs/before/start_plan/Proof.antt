@@ -13,7 +13,7 @@ use Rattle.records.specs.Request.{askOf}
 use Rattle.slots.specs.Limits.{IDS, LONGEST}
 use Rattle.timetable.proofs.Entries.{each-all, each-next}
 use Rattle.timetable.proofs.Filling.{Filled, filled-next, filled-nothing}
-use Rattle.timetable.proofs.Since.{start-cycle}
+use Rattle.timetable.proofs.Since.{shortfall-cycle}
 use Rattle.timetable.proofs.Sound.{listed-in-range, sound-from}
 use Rattle.timetable.specs.declared.Entry.{Entry}
 use Rattle.timetable.specs.Timetable.{each, entryOf}
@@ -32,14 +32,14 @@ abbrev μ-loop : tie.MeasureT-loop
 sub-elapsed : tie.Need-sub-elapsed Inv-loop μ-loop
 sub-elapsed c = c .pre .1
 
-none-requires : tie.Need-none-requires Inv-loop μ-loop
-none-requires c κs = search needs
+absent-requires : tie.Need-absent-requires Inv-loop μ-loop
+absent-requires c κs = search needs
 
 loop-holds : tie.Need-loop-holds Inv-loop μ-loop
 unfolding each
 loop-holds c =
     let a = c .before .args in
-    (omega arith, ap (replicate IDS) (c .none .ensures), filled-nothing (λ i. entryOf (startEntries (a .t1) (a .t2 .slot) (a .t2 .asks)) i .shortfall) (a .starts .now) (c .before .pre .2))
+    (omega arith, ap (replicate IDS) (c .absent .ensures), filled-nothing (λ i. entryOf (startEntries (a .t1) (a .t2 .slot) (a .t2 .asks)) i .shortfall) (a .starts .now) (c .before .pre .2))
 
 mul-old : tie.Need-mul-old Inv-loop μ-loop
 mul-old c = search needs
@@ -87,7 +87,7 @@ loop-again c =
     let e =
     c .enter .ensures
     ∙ ap (λ (x : ℕ). entering (entryOf (a .t1 .entries) (l .id)) x (askOf (a .t2 .asks) (l .id)))
-    (start-cycle (a .t1) (sound-from (a .t1) (s .pre .0)) (l .id) k (a .t2 .slot) (s .pre .1)) in (
+    (shortfall-cycle (a .t1) (sound-from (a .t1) (s .pre .0)) (l .id) k (a .t2 .slot) (s .pre .1)) in (
       omega (arith, k),
       each-next _ _ (l .id) (l .entries) (c .enter .result) (l .inv .1) e,
       filled-next (λ i. entryOf (startEntries (a .t1) (a .t2 .slot) (a .t2 .asks)) i .shortfall) (l .id) (l .starts) _ k (l .inv .2)
@@ -111,7 +111,7 @@ start-plan-spec =
     Inv-loop
     μ-loop
     sub-elapsed
-    none-requires
+    absent-requires
     loop-holds
     mul-old
     element-copy-out-old

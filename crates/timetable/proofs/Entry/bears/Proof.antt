@@ -21,8 +21,8 @@ returns c =
 
 returns-2 : tie.Need-returns-2
 returns-2 c =
-    let a = c .before .before .args in
-    bears-unlisted (a .self) (a .start) (sym (c .before .is-listed .ensures) ∙ c .if1 .left)
+    let k = c .before .before in
+    bears-unlisted (k .before .args .self) (k .before .args .start) (sym (k .is-listed .ensures) ∙ c .before .if1 .left)
 
 pub bears-spec : {M : Type 1} → statement M
 bears-spec = tie.close (tie.spec is-listed-requires cast-result mul-result returns returns-2)

@@ -1,7 +1,7 @@
 -- `is_well_formed` asks what the definition asks of a listed entry, or of another. Assumes nothing.
 use borrow.Author.Needs.{needs}
 use mathlib.Core.Path.{sym, _∙_}
-use Rattle.timetable.proofs.SoundLaws.{formed-listed, formed-blank}
+use Rattle.timetable.proofs.SoundLaws.{formed-listed, formed-absent}
 use Rattle.timetable.proofs.Entry.is_well_formed.Statement.{statement}
 use Rattle.timetable.proofs.Entry.is_well_formed.Tie as tie
 
@@ -11,8 +11,8 @@ is-listed-requires c κs = search needs
 in-range-requires : tie.Need-in-range-requires
 in-range-requires c κs = search needs
 
-is-blank-requires : tie.Need-is-blank-requires
-is-blank-requires c κs = search needs
+is-absent-requires : tie.Need-is-absent-requires
+is-absent-requires c κs = search needs
 
 returns : tie.Need-returns
 returns c =
@@ -21,9 +21,9 @@ returns c =
 
 returns-2 : tie.Need-returns-2
 returns-2 c =
-    c .is-blank .ensures
-    ∙ sym (formed-blank (c .before .before .before .args .self) (sym (c .before .before .is-listed .ensures) ∙ c .before .if1 .left))
+    c .is-absent .ensures
+    ∙ sym (formed-absent (c .before .before .before .args .self) (sym (c .before .before .is-listed .ensures) ∙ c .before .if1 .left))
 
 pub is-well-formed-spec : {M : Type 1} → statement M
 is-well-formed-spec =
-    tie.close (tie.spec is-listed-requires in-range-requires is-blank-requires returns returns-2)
+    tie.close (tie.spec is-listed-requires in-range-requires is-absent-requires returns returns-2)

@@ -52,7 +52,7 @@ sub-shortfall-after c = search needs
 shortfall-after-requires : tie.Need-shortfall-after-requires
 shortfall-after-requires c κs =
     let s = c .before .before .before .before in
-    listed-in-range (s .args .t1) (s .pre .0) (s .args .id) (s .pre .1) (s .pre .2)
+    λ l. listed-in-range (s .args .t1) (s .pre .0) (s .args .id) (s .pre .1) (s .pre .2)
 
 returns-2 : tie.Need-returns-2
 returns-2 c =
