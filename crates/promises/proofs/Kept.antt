@@ -7,7 +7,7 @@ use mathlib.Core.List.{List}
 use mathlib.Core.Logic.{_≢_, _⊎_, inl, inr}
 use mathlib.Core.Option.{Option, none, some}
 use mathlib.Core.Path.{_≡_, refl, sym, ap, ap₂, _∙_, subst}
-use native.Mathlib.Decide.{decLt}
+use native.Mathlib.Decide.{decLt, ℕ-discrete}
 use native.Mathlib.Omega.{arith}
 use Prim.Native.Nat.{ℕ, suc, _+_, _-_, _*_, _≤_, _<_}
 use Rattle.archive.proofs.AnswerBack.{answer-back}
@@ -20,13 +20,13 @@ use Rattle.change.proofs.Answers.{Gets, refused, accepted, no-slot, no-length, 
 use Rattle.change.proofs.AsBefore.{behind-named}
 use Rattle.change.proofs.GivenLaws.{at-request, gives, wanting-number}
 use Rattle.change.proofs.Granted.{granted}
-use Rattle.change.proofs.Histories.{history-valid}
+use Rattle.change.proofs.Histories.{history-valid, sent-accepted, sent-refused}
 use Rattle.change.proofs.OneGiven.{gives-one}
 use Rattle.change.proofs.QueriedLaws.{owner-given, owner-only, standing-given, standing-only}
 use Rattle.change.proofs.Raised.{answer-raised, verdict-raised, withT}
 use Rattle.change.proofs.Stages.{stages}
 use Rattle.change.specs.Change.{answer, answerTo, answerOf, outcome, outcomeOf, areaAfter, recordOf, refuse, searchOf, startPlan, written}
-use Rattle.change.specs.Controller.{historyOf}
+use Rattle.change.specs.Controller.{Sent, historyOf, send}
 use Rattle.change.specs.declared.Answer.{Answer}
 use Rattle.change.specs.declared.Outcome.{Outcome}
 use Rattle.change.specs.Given.{Gives, early, refusedWith, schedule, wanting}
@@ -43,7 +43,7 @@ use Rattle.placement.specs.Placement.{Place, placement}
 use Rattle.promises.proofs.Archived.{accepted-read}
 use Rattle.promises.proofs.Lengths.{accepted-iff, exhausted-iff, missed-iff, passed-number, refused-iff}
 use Rattle.promises.proofs.ShortFields.{full-one, full-request, same-answer, there-request}
-use Rattle.promises.specs.Promises.{SoundStays, Windows, OneOwner, PlacementComplete, Passes, Shortest, Tries, Stages, OneForm, KeptShortfall, Queries, Exact, Figures, LargerT, RaisingT, AnswersRead, RequestsWritten, AsBefore, GrantedAsThere}
+use Rattle.promises.specs.Promises.{SoundStays, Windows, OneOwner, PlacementComplete, Passes, Shortest, Tries, Stages, OneForm, KeptShortfall, Queries, Exact, Figures, LargerT, RaisingT, AnswersRead, RequestsWritten, AsBefore, GrantedAsThere, Debts}
 use Rattle.records.proofs.AnswerLaws.{answer-length}
 use Rattle.records.proofs.OneForm.{one-form}
 use Rattle.records.proofs.ReadLaws.{read-in-range, refused-in-range}
@@ -54,19 +54,19 @@ use Rattle.records.specs.declared.ReadRequest.{ReadRequest}
 use Rattle.records.specs.Reads.{RequestRead}
 use Rattle.records.specs.Request.{readRequest}
 use Rattle.slots.proofs.Below.{count-most}
-use Rattle.slots.proofs.Windows.{attains, kept-windows, window-le}
+use Rattle.slots.proofs.Windows.{attains, kept-windows, window-le, worked-off}
 use Rattle.slots.specs.Below.{count}
 use Rattle.slots.specs.Clocks.{coreSlot, sliceCount}
 use Rattle.slots.specs.Limits.{IDS, WHOLE, AREA, LAST-SLOT}
 use Rattle.slots.specs.Slots.{entitlement, supply, shortfall}
 use Rattle.timetable.proofs.InForce.{empty-sound, in-force-sound, present-in-force, present-sound}
 use Rattle.timetable.proofs.Owner.{serves-one}
-use Rattle.timetable.proofs.Run.{base-later, kept-run, present-run, slices-run}
+use Rattle.timetable.proofs.Run.{absent-run, base-later, kept-run, present-run, shortfall-stays, slices-run}
 use Rattle.timetable.proofs.Since.{shortfall-base, shortfall-request}
 use Rattle.timetable.proofs.Sound.{ranged-from, sound-is, sound-from}
 use Rattle.timetable.specs.declared.Entry.{Entry}
 use Rattle.timetable.specs.declared.Timetable.{Timetable}
-use Rattle.timetable.specs.History.{present, inForce, runOf}
+use Rattle.timetable.specs.History.{History, present, inForce, runOf}
 use Rattle.timetable.specs.Owner.{ownerNumber}
 use Rattle.timetable.specs.Sound.{entriesInRange}
 use Rattle.timetable.specs.Timetable.{ownerAt, slicesAt}
@@ -396,3 +396,27 @@ granted-as-there = record {
       record { accepted = g .0; at-once = g .1; period = λ i k. g .2 i k .0; bound = λ i k. g .2 i k .1 };
   asked = λ t z slot limit a b c. there-request t (sound-from t z) slot limit a b c;
 }
+
+-- ---- 18
+
+pub debts : Debts
+unfolding outcome present
+debts = record {
+  worked-off = λ sent.
+      let h = historyOf sent in
+      record { falls = worked-off (runOf h); absent = absent-run h (history-valid sent) };
+  stays = stays;
+  accepted = λ t s area e i k.
+      let c = accepted-continues t s (length area) e in
+      shortfall-request (answer t s (length area) .timetable) i ∙ c .starts i k;
+}
+  where
+    stays : (h : History) (q : Sent) (i x : ℕ) → x ≤ present (send h q) .request .0 → shortfall (runOf (send h q)) i x ≡ shortfall (runOf h) i x
+    stays h q i x l = at (ℕ-discrete (answer (present h) (q .bytes) (q .area) .number) ACCEPTED)
+      where
+        at : Dec (answer (present h) (q .bytes) (q .area) .number ≡ ACCEPTED) → shortfall (runOf (send h q)) i x ≡ shortfall (runOf h) i x
+        at (yes e) =
+            let z = sent-accepted h q e in
+            ap (λ (g : History). shortfall (runOf g) i x) z
+            ∙ shortfall-stays (answer (present h) (q .bytes) (q .area) .timetable) h i x (subst (λ (g : History). x ≤ present g .request .0) z l)
+        at (no n) = ap (λ (g : History). shortfall (runOf g) i x) (sent-refused h q n)

@@ -22,9 +22,9 @@ use Rattle.change.specs.Queried.{OwnerGiven, StandingGiven}
 use Rattle.change.specs.Refused.{StagesSay}
 use Rattle.numbers.specs.declared.Verdict.the-variants.{Refused}
 use Rattle.numbers.specs.Numbers.{ACCEPTED, SLOT-MISSED, LENGTHS-EXHAUSTED}
-use Rattle.promises.proofs.Kept.{answers-read, exact, kept-shortfall, one-owner, queries, raising-T, requests-written, shortest, sound-stays, stages-kept, windows, as-before, granted-as-there}
-use Rattle.promises.specs.OfCode.{Meets, Serves, start, accepts, refuses, DemandOne, DemandTwo, DemandThree, DeficitMeans, QueriesOfCode, RaisingTOfCode, ArchiveOfCode, AsBeforeOfCode, GrantedOfCode}
-use Rattle.promises.specs.Promises.{QueriesTell, RaisedT, ReadAs, ServesOne, ShortestOf, ShortfallMeans, WindowsKept, StaysAsThere}
+use Rattle.promises.proofs.Kept.{answers-read, exact, kept-shortfall, one-owner, queries, raising-T, requests-written, shortest, sound-stays, stages-kept, windows, as-before, debts, granted-as-there}
+use Rattle.promises.specs.OfCode.{Meets, Serves, start, accepts, refuses, DemandOne, DemandTwo, DemandThree, DeficitMeans, QueriesOfCode, RaisingTOfCode, ArchiveOfCode, AsBeforeOfCode, DebtsOfCode, GrantedOfCode}
+use Rattle.promises.specs.Promises.{QueriesTell, RaisedT, ReadAs, ServesOne, ShortestOf, ShortfallMeans, WindowsKept, StaysAsThere, WorkedOff}
 use Rattle.records.proofs.ReadSteps.{as-read, read-alike}
 use Rattle.records.specs.declared.Reading.the-variants.{Whole}
 use Rattle.records.specs.declared.ReadRequest.{ReadRequest}
@@ -33,6 +33,7 @@ use Rattle.records.specs.Request.{readRequest}
 use Rattle.timetable.specs.declared.Timetable.{Timetable}
 use Rattle.timetable.specs.History.{History, present}
 use Rattle.timetable.specs.Sound.{isSound}
+use Rattle.timetable.specs.Timetable.{shortfallAt}
 
 module _ (t : Timetable) (s area : List ℕ) (r : Outcome) (out : List ℕ) (m : Meets t s area r out) where
   -- What is promised of the outcome and the area holds of what meets the contract.
@@ -120,6 +121,15 @@ granted-of-code t s area r out m z size asks =
 
 pub deficit-means : DeficitMeans
 deficit-means = of-controller ShortfallMeans kept-shortfall
+
+pub debts-of-code : DebtsOfCode
+debts-of-code = record {
+  worked-off = of-controller WorkedOff (debts .worked-off);
+  accepted = λ t s area r out m e i k.
+      of-code t s area r out m
+      (λ (o : Outcome) (_ : List ℕ). o .number ≡ ACCEPTED → shortfallAt (o .timetable) i (o .timetable .request) ≡ shortfallAt t i (o .timetable .request))
+      (λ z. debts .accepted t s area z i k) e;
+}
 
 pub queries-of-code : QueriesOfCode
 queries-of-code = record {

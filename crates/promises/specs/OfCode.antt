@@ -1,4 +1,4 @@
--- docs/RULES.md 1.4 to 1.11, demands 1 to 3 and what lab, service screen, desk, lab network and method software read, of the code: of whatever meets the contract of `change`, of a query, of the reader of answers or the writer of requests, and of a controller that is made of such calls.
+-- docs/RULES.md 1.4 to 1.12, demands 1 to 3 and what lab, service screen, desk, lab network and method software read, of the code: of whatever meets the contract of `change`, of a query, of the reader of answers or the writer of requests, and of a controller that is made of such calls.
 use lib.ListN.{getD, length, take}
 use mathlib.Core.Bool.{true}
 use mathlib.Core.List.{List, [], _∷_}
@@ -23,7 +23,7 @@ use Rattle.change.specs.Refused.{StagesSay}
 use Rattle.numbers.specs.declared.Refusal.{Refusal}
 use Rattle.numbers.specs.declared.Verdict.the-variants.{Passed, Refused}
 use Rattle.numbers.specs.Numbers.{ACCEPTED, SLOT-MISSED, LENGTHS-EXHAUSTED}
-use Rattle.promises.specs.Promises.{LargerT, Passes, RaisedT, ReadAs, ServesOne, ShortestOf, ShortfallMeans, WindowsKept, AsksAsThere, InFull, StaysAsThere}
+use Rattle.promises.specs.Promises.{LargerT, Passes, RaisedT, ReadAs, ServesOne, ShortestOf, ShortfallMeans, WindowsKept, AsksAsThere, InFull, StaysAsThere, WorkedOff}
 use Rattle.records.specs.declared.Reading.the-variants.{Whole}
 use Rattle.records.specs.declared.ReadRequest.{ReadRequest}
 use Rattle.records.specs.Reads.{RequestRead}
@@ -36,7 +36,7 @@ use Rattle.timetable.specs.declared.Timetable.{Timetable}
 use Rattle.timetable.specs.History.{History, present, runOf}
 use Rattle.timetable.specs.Owner.{ownerNumber}
 use Rattle.timetable.specs.Sound.{isSound}
-use Rattle.timetable.specs.Timetable.{lists}
+use Rattle.timetable.specs.Timetable.{lists, shortfallAt}
 
 -- The contract of `change`: the outcome r and the area afterwards, `out`, for a timetable, the bytes of a request and an area.
 abbrev pub Meets : Timetable → List ℕ → List ℕ → Outcome → List ℕ → Type 0
@@ -100,6 +100,12 @@ GrantedOfCode = (t : Timetable) (s area : List ℕ) (r : Outcome) (out : List �
 -- What the lab reads: the kept shortfall is the largest excess of entitlement over supply, across the changes of a controller.
 abbrev pub DeficitMeans : Type 0
 DeficitMeans = (h : History) → Serves h → ShortfallMeans h
+
+-- And a debt is worked off, not dropped: in the run of a controller, and by each `change` that accepts.
+pub record DebtsOfCode : Type 0 where
+  pub worked-off : (h : History) → Serves h → WorkedOff h
+  pub accepted : (t : Timetable) (s area : List ℕ) (r : Outcome) (out : List ℕ) → Meets t s area r out → r .number ≡ ACCEPTED → (i : ℕ) → i < IDS
+      → shortfallAt (r .timetable) i (r .timetable .request) ≡ shortfallAt t i (r .timetable .request)
 
 -- The queries: each answers or refuses as the rules say, with zeros beside a refusal, and leaves one answer; what it answers of a controller's
 -- timetable is the run's owner, and the run's shortfall and supply.

@@ -1,4 +1,4 @@
--- docs/RULES.md 1.4 to 1.11: the promises, as statements about the definitions. Each speaks of the slots and of the rules, never of how something is
+-- docs/RULES.md 1.4 to 1.12: the promises, as statements about the definitions. Each speaks of the slots and of the rules, never of how something is
 -- computed; proofs/Kept.antt proves each under its name. Two wrong programs that a promise shuts out stand under it.
 use lib.ListN.{getD, length, take}
 use mathlib.Core.Bool.{false, true}
@@ -16,7 +16,7 @@ use Rattle.archive.specs.declared.Writing.{Writing}
 use Rattle.archive.specs.RequestWrite.{areaWritten, writeRequest}
 use Rattle.archive.specs.Writes.{ListsEntries, RequestWritten}
 use Rattle.change.specs.Change.{outcome, areaAfter, startPlan}
-use Rattle.change.specs.Controller.{Sent, historyOf}
+use Rattle.change.specs.Controller.{Sent, historyOf, send}
 use Rattle.change.specs.declared.Outcome.{Outcome}
 use Rattle.change.specs.declared.OwnerAnswer.{OwnerAnswer}
 use Rattle.change.specs.declared.StandingAnswer.{StandingAnswer}
@@ -310,3 +310,18 @@ pub record GrantedAsThere : Type 0 where
   pub granted : (t : Timetable) (s area : List ℕ) → isSound t ≡ true → AREA ≤ length area → AsksAsThere t s → StaysAsThere t (outcome t s area)
   pub asked : (t : Timetable) → isSound t ≡ true → (slot limit : ℕ) → t .base .0 ≤ slot → slot ≤ LAST-SLOT → limit ≤ LONGEST
       → (s : List ℕ) × AsksAsThere t s × (readRequest s .request .slot .0 ≡ slot) × (readRequest s .request .limit ≡ limit)
+
+-- 18. A debt is worked off, not dropped. From slot a to slot a + n of a run an id's shortfall falls by at most 256 for each of its own slots between them,
+-- and not at all without one; and over slots in which the id is not listed it stays as it is.
+-- (Shuts out: a debt cleared on leaving, or on returning; a debt that grows in an absence.)
+pub record WorkedOff (h : History) : Type 0 where
+  pub falls : (i a n : ℕ) → shortfall (runOf h) i a ≤ shortfall (runOf h) i (a + n) + WHOLE * supply (runOf h) i a n
+  pub absent : (i a n : ℕ) → i < IDS → ((m : ℕ) → m < n → runOf h (a + m) .weight i ≡ 0) → shortfall (runOf h) i (a + n) ≡ shortfall (runOf h) i a
+
+-- So after any requests from an empty controller. And no request, leaving and returning included, changes a shortfall up to its request slot: the run's
+-- stays, and the new timetable tells there what the one before told, be the id listed in both, in one of the two or in neither.
+pub record Debts : Type 0 where
+  pub worked-off : (sent : List Sent) → WorkedOff (historyOf sent)
+  pub stays : (h : History) (q : Sent) (i x : ℕ) → x ≤ present (send h q) .request .0 → shortfall (runOf (send h q)) i x ≡ shortfall (runOf h) i x
+  pub accepted : (t : Timetable) (s area : List ℕ) → outcome t s area .number ≡ ACCEPTED → (i : ℕ) → i < IDS
+      → shortfallAt (outcome t s area .timetable) i (outcome t s area .timetable .request) ≡ shortfallAt t i (outcome t s area .timetable .request)
