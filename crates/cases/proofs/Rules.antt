@@ -10,10 +10,10 @@ use Rattle.records.specs.Request.{numberAt, lengthAt, contentAt, isField, numbe
 use Rattle.slots.specs.Below.{every, first, count}
 use Rattle.slots.specs.Shortfall.{weightOf, overSlot, keeps, roomOf, lastOffsetOf}
 use Rattle.slots.specs.Slots.{isOwner, own, shortfall}
-use Rattle.timetable.specs.Sound.{requestInRange, lengthInRange, baseAsStated, ownersListed, isPeriod, isBound, entryInRange, entryBlank, entriesInRange, shareNone, noneShared, unusedOwnersZero, startInRange, startsInRange, walkArrives, isSound}
-use Rattle.timetable.specs.Timetable.{each, cyclic, serves, shortfallSince, shortfallAt, slicesAt, startShortfall, transitionShortfall}
+use Rattle.timetable.specs.Sound.{requestInRange, lengthInRange, baseAsStated, ownersListed, isPeriod, isBound, entryInRange, entryAbsent, entriesInRange, shareNone, noneShared, unusedOwnersZero, startInRange, startsInRange, walkArrives, isSound}
+use Rattle.timetable.specs.Timetable.{each, cyclic, serves, shortfallSince, shortfallAt, slicesAt, transitionShortfall}
 use Rattle.transition.specs.Transition.{moreUrgent, mostUrgent, isMissed, overAll, longer, ended, passed, placed, searchFrom}
 
 unfoldable pub rules : Unit {0}
-unfolding numberOf placeOf timetableOf shortfallsOf startPlan startsOf searchOf answerOf answerTo answer recordOf orElse firstOf refusedAt boundBefore askedBound entering startEntries weightSum overfull isBehind behind stageSound stageArea stageFields stageEarly stageOverfull stageBehind stagesFirst stagesListed verdictBefore standing standingQuery isFrame frameContent frameRest digits decimal answeredLength lineOf line linesFrom programLines demandOf comesBefore insert ordered isTaken allFree lastFree placeFrom placement settle field rising answerRecord numberAt lengthAt contentAt isField numberField isListing listedAs listedField readListing refusedRequest withListing readRequest every first count weightOf overSlot keeps roomOf lastOffsetOf isOwner own shortfall requestInRange lengthInRange baseAsStated ownersListed isPeriod isBound entryInRange entryBlank entriesInRange shareNone noneShared unusedOwnersZero startInRange startsInRange walkArrives isSound each cyclic serves shortfallSince shortfallAt slicesAt startShortfall transitionShortfall moreUrgent mostUrgent isMissed overAll longer ended passed placed searchFrom
+unfolding numberOf placeOf timetableOf shortfallsOf startPlan startsOf searchOf answerOf answerTo answer recordOf orElse firstOf refusedAt boundBefore askedBound entering startEntries weightSum overfull isBehind behind stageSound stageArea stageFields stageEarly stageOverfull stageBehind stagesFirst stagesListed verdictBefore standing standingQuery isFrame frameContent frameRest digits decimal answeredLength lineOf line linesFrom programLines demandOf comesBefore insert ordered isTaken allFree lastFree placeFrom placement settle field rising answerRecord numberAt lengthAt contentAt isField numberField isListing listedAs listedField readListing refusedRequest withListing readRequest every first count weightOf overSlot keeps roomOf lastOffsetOf isOwner own shortfall requestInRange lengthInRange baseAsStated ownersListed isPeriod isBound entryInRange entryAbsent entriesInRange shareNone noneShared unusedOwnersZero startInRange startsInRange walkArrives isSound each cyclic serves shortfallSince shortfallAt slicesAt transitionShortfall moreUrgent mostUrgent isMissed overAll longer ended passed placed searchFrom
 rules = tt

@@ -3,9 +3,9 @@ use mathlib.Core.Path.{refl}
 use native.Mathlib.Omega.{arith}
 use Rattle.cases.proofs.CaseE.{holds-E}
 use Rattle.cases.proofs.Rules.{rules}
-use Rattle.cases.specs.Cases.{Hold, told, given, head, lists, short, frame, pair, requestA, requestB, requestE, requestShort, table, afterA, afterB, afterLeaving, accepted, refused, runG, cases}
+use Rattle.cases.specs.Cases.{Hold, told, given, head, lists, short, frame, pair, requestA, requestB, requestE, requestShort, requestWithout, table, afterA, afterB, afterLeaving, afterOut, withDebt, accepted, refused, runG, cases}
 
 -- All but E are computed; E holds for every T.
 pub cases-hold : Hold cases
-unfolding rules told given head lists short frame pair requestA requestB requestE requestShort table afterA afterB afterLeaving accepted refused runG cases
-cases-hold = (refl, (refl, (refl, (refl, (refl, (refl, (refl, (refl, (refl, (refl, (refl, (refl, (refl, (refl, (refl, (refl, (refl, (refl, (refl, (refl, (refl, (refl, (refl, (refl, (refl, (refl, (refl, (refl, (refl, holds-E 65 (omega arith))))))))))))))))))))))))))))))
+unfolding rules told given head lists short frame pair requestA requestB requestE requestShort requestWithout table afterA afterB afterLeaving afterOut withDebt accepted refused runG cases
+cases-hold = (refl, (refl, (refl, (refl, (refl, (refl, (refl, (refl, (refl, (refl, (refl, (refl, (refl, (refl, (refl, (refl, (refl, (refl, (refl, (refl, (refl, (refl, (refl, (refl, (refl, (refl, (refl, (refl, (refl, (refl, (refl, (refl, (refl, (refl, (refl, (refl, (refl, (refl, holds-E 65 (omega arith)))))))))))))))))))))))))))))))))))))))

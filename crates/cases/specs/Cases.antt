@@ -1,7 +1,7 @@
 -- docs/RULES.md 11: the lettered bench cases, as one table of what is asked and what the definitions give.
 use lib.Dec.{eqb, ltb, leb}
 use lib.ListN.{length, replicate}
-use mathlib.Core.Bool.{false, cond, _||_, _&&_}
+use mathlib.Core.Bool.{cond, _||_, _&&_}
 use mathlib.Core.List.{List, [], _∷_, _++_}
 use mathlib.Core.Option.{none, some}
 use mathlib.Core.Path.{_≡_}
@@ -19,7 +19,7 @@ use Rattle.slots.specs.Shortfall.{roomOf, lastOffsetOf}
 use Rattle.slots.specs.Slots.{Run, shortfall}
 use Rattle.timetable.specs.declared.Entry.{Entry}
 use Rattle.timetable.specs.declared.Timetable.{Timetable}
-use Rattle.timetable.specs.Timetable.{noEntry, emptyTimetable, entryOf}
+use Rattle.timetable.specs.Timetable.{absentEntry, noEntry, emptyTimetable, entryOf}
 
 -- What a case asks.
 pub data Asked : Type 0 where
@@ -103,6 +103,10 @@ requestB slot limit = head slot limit ++ pair ++ lists 2 1 2
 unfoldable pub requestE : ℕ → ℕ → List ℕ
 requestE slot limit = head slot limit ++ pair ++ lists 2 1 1
 
+-- B's listing without id 2, with a slot and T 0.
+unfoldable pub requestWithout : ℕ → List ℕ
+requestWithout slot = head slot 0 ++ pair
+
 -- B's listing with a short field for id 2, with a slot and a T.
 unfoldable pub requestShort : ℕ → ℕ → List ℕ
 requestShort slot limit = head slot limit ++ pair ++ short 2 1
@@ -126,9 +130,17 @@ afterA = table 0 0 0 (entry 4 3 1 0 ∷ entry 4 2 1 0 ∷ []) (0 ∷ 0 ∷ []) 3
 unfoldable pub afterB : Timetable
 afterB = table 6 1 1 (entry 4 0 1 192 ∷ entry 4 2 1 0 ∷ entry 2 1 2 128 ∷ []) (128 ∷ 192 ∷ 0 ∷ []) 29
 
--- B's, with id 2 left out at slot 7.
+-- B's, with id 2 left out at slot 7, at a shortfall of 128.
 unfoldable pub afterLeaving : Timetable
-afterLeaving = table 7 0 0 (entry 4 0 1 192 ∷ entry 4 3 1 0 ∷ []) (192 ∷ 0 ∷ []) 30
+afterLeaving = table 7 0 0 (entry 4 0 1 192 ∷ entry 4 3 1 0 ∷ absentEntry 128 ∷ []) (192 ∷ 0 ∷ 128 ∷ []) 29
+
+-- B's, with id 2 left out at slot 8, at a shortfall of 256.
+unfoldable pub afterOut : Timetable
+afterOut = table 8 0 0 (entry 4 3 1 0 ∷ entry 4 2 1 64 ∷ absentEntry 256 ∷ []) (0 ∷ 64 ∷ 256 ∷ []) 29
+
+-- The empty timetable, but with a debt of id 2, at the request slot and at the base.
+unfoldable pub withDebt : ℕ → ℕ → Timetable
+withDebt start s = table 0 0 0 (noEntry ∷ noEntry ∷ absentEntry s ∷ []) (0 ∷ 0 ∷ start ∷ []) 29
 
 -- Helper of cases: an acceptance: its tries, timetable and record.
 unfoldable pub accepted : ℕ → Timetable → List ℕ → Given
@@ -148,7 +160,6 @@ runG t = record {
   owner = cond (eqb t 0 || (leb 4 t && leb t 6)) (some 0) none;
   weight = λ i. cond (ltb t 4) 64 256;
   bound = λ i. 2;
-  newly = λ i. false;
 }
 
 -- What E gets by its T: 11 at T 0, 1 and 2, place T and tries T + 1; 9 at place 2 with 3 tries from T 3 on.
@@ -170,7 +181,7 @@ Hold (c ∷ cs) = (given (c .asked) ≡ c .says) × Hold cs
 
 -- ---- the table
 
--- Cases A to J, standing during a change, the short field, and the program's lines for A and B.
+-- Cases A to J, standing during a change, the short field, a debt across an absence, and the program's lines for A and B.
 unfoldable pub cases : List Case
 cases =
     -- A: offsets 3 and 2
@@ -200,12 +211,28 @@ cases =
     ∷ case (change afterB (requestShort 8 1))
     (accepted 1 (table 8 0 0 (entry 4 0 1 0 ∷ entry 4 2 1 64 ∷ entry 2 1 2 256 ∷ []) (0 ∷ 64 ∷ 256 ∷ []) 29)
     (0x10 ∷ 0 ∷ 1 ∷ 0 ∷ 0x11 ∷ 0 ∷ 0 ∷ 0x12 ∷ 0 ∷ 2 ∷ 0 ∷ 0 ∷ 0x12 ∷ 0 ∷ 2 ∷ 1 ∷ 2 ∷ 0x12 ∷ 0 ∷ 2 ∷ 2 ∷ 1 ∷ []))
-    -- id 2 left out after B, and asked for again with a short field: R 1
-    ∷ case (change afterB (head 7 0 ++ pair))
+    -- id 2 left out after B at slot 7, and asked for again at slot 8 with a short field: R 1
+    ∷ case (change afterB (requestWithout 7))
     (accepted 1 afterLeaving (0x10 ∷ 0 ∷ 1 ∷ 0 ∷ 0x11 ∷ 0 ∷ 0 ∷ 0x12 ∷ 0 ∷ 2 ∷ 0 ∷ 0 ∷ 0x12 ∷ 0 ∷ 2 ∷ 1 ∷ 3 ∷ []))
-    ∷ case (change afterLeaving (requestShort 7 0))
-    (accepted 1 (table 7 0 0 (entry 4 0 1 192 ∷ entry 4 2 1 0 ∷ entry 2 1 1 0 ∷ []) (192 ∷ 0 ∷ 0 ∷ []) 29)
+    ∷ case (change afterLeaving (requestShort 8 0))
+    (accepted 1 (table 8 0 0 (entry 4 3 1 0 ∷ entry 4 1 1 64 ∷ entry 2 0 1 128 ∷ []) (0 ∷ 64 ∷ 128 ∷ []) 29)
+    (0x10 ∷ 0 ∷ 1 ∷ 0 ∷ 0x11 ∷ 0 ∷ 0 ∷ 0x12 ∷ 0 ∷ 2 ∷ 0 ∷ 3 ∷ 0x12 ∷ 0 ∷ 2 ∷ 1 ∷ 1 ∷ 0x12 ∷ 0 ∷ 2 ∷ 2 ∷ 0 ∷ []))
+    -- id 2 left out after B at slot 8, with a debt of 256: the query tells nothing of it
+    ∷ case (change afterB (requestWithout 8))
+    (accepted 1 afterOut (0x10 ∷ 0 ∷ 1 ∷ 0 ∷ 0x11 ∷ 0 ∷ 0 ∷ 0x12 ∷ 0 ∷ 2 ∷ 0 ∷ 3 ∷ 0x12 ∷ 0 ∷ 2 ∷ 1 ∷ 2 ∷ []))
+    ∷ case (standing afterOut 2 8) (figures (10 ∷ 0 ∷ 0 ∷ []))
+    -- asked for again at slot 8: D is refused as without the absence, with a short field too; R 2 is granted, and the debt is as it was
+    ∷ case (change afterOut (requestE 8 0)) (refused 8 2 0 afterOut)
+    ∷ case (change afterOut (requestShort 8 0)) (refused 8 2 0 afterOut)
+    ∷ case (change afterOut (requestB 8 0))
+    (accepted 1 (table 8 0 0 (entry 4 0 1 0 ∷ entry 4 2 1 64 ∷ entry 2 1 2 256 ∷ []) (0 ∷ 64 ∷ 256 ∷ []) 29)
     (0x10 ∷ 0 ∷ 1 ∷ 0 ∷ 0x11 ∷ 0 ∷ 0 ∷ 0x12 ∷ 0 ∷ 2 ∷ 0 ∷ 0 ∷ 0x12 ∷ 0 ∷ 2 ∷ 1 ∷ 2 ∷ 0x12 ∷ 0 ∷ 2 ∷ 2 ∷ 1 ∷ []))
+    -- and at slot 20
+    ∷ case (change afterOut (requestE 20 0)) (refused 8 2 0 afterOut)
+    -- a debt of 2,047 is sound, 2,048 is not, and nor are two that differ
+    ∷ case (change (withDebt 2047 2047) (head 0 0)) (accepted 1 (withDebt 2047 2047) (0x10 ∷ 0 ∷ 1 ∷ 0 ∷ 0x11 ∷ 0 ∷ 0 ∷ []))
+    ∷ case (change (withDebt 2048 2048) (head 0 0)) (refused 1 0 0 (withDebt 2048 2048))
+    ∷ case (change (withDebt 2046 2047) (head 0 0)) (refused 1 0 0 (withDebt 2046 2047))
     -- F: slot 6 is too early, slot 7 is not
     ∷ case (change afterB (requestB 6 1)) (refused 6 0 0 afterB)
     ∷ case (change afterB (requestB 7 1))
