@@ -109,7 +109,7 @@ fn answer(timetable: &Timetable, record: &[u8], area: usize) -> Result<(Timetabl
     }
     let request = Request::in_full(&read, timetable);
     within_core(&request.listing)?;
-    let shortfalls = shortfalls_at(timetable, &request);
+    let shortfalls = shortfalls_at(timetable, request.slot);
     within_bounds(&request.listing, &shortfalls)?;
     let schedule = search(&request, shortfalls)?;
     Ok((renewed(&request, &schedule), schedule.tries))
@@ -127,17 +127,11 @@ fn within_core(listing: &Listing) -> Result<(), Refusal> {
     Ok(())
 }
 
-/// Rule 1, beside the R as before: the shortfalls at the request slot; a newly listed partition starts at 0.
-fn shortfalls_at(timetable: &Timetable, request: &Request) -> Shortfalls {
-    let mut shortfalls = [0; IDS];
+/// Rule 1, beside the R as before: the shortfall of every id at the request slot, listed or not.
+fn shortfalls_at(timetable: &Timetable, request_slot: u64) -> Shortfalls {
     let mut walk = Walk::from_request_slot(timetable);
-    walk.pass(request.slot.saturating_sub(timetable.request_slot));
-    for (id, _) in listed(&request.listing) {
-        if timetable.entries[id].listed() {
-            shortfalls[id] = walk.shortfalls[id];
-        }
-    }
-    shortfalls
+    walk.pass(request_slot.saturating_sub(timetable.request_slot));
+    walk.shortfalls
 }
 
 /// Every shortfall is below 256 times the new R, or the lowest id where it is not is named.
@@ -197,21 +191,20 @@ pub(crate) fn placement(listing: &Listing, shortfalls: &Shortfalls) -> Option<[u
     Some(offsets)
 }
 
-/// The timetable that holds after an acceptance: the schedule with the request's listing.
+/// The timetable that holds after an acceptance: the schedule with the request's listing, and of
+/// every other id the shortfall alone.
 fn renewed(request: &Request, schedule: &Schedule) -> Timetable {
     let length = schedule.owners.len();
     let mut owners = [0; LONGEST_TRANSITION];
     for (place, owner) in owners.iter_mut().zip(&schedule.owners) {
         *place = *owner;
     }
-    let mut entries = [Entry::default(); IDS];
+    let mut entries =
+        schedule.shortfalls.map(|owed| Entry { shortfall: owed as u16, ..Entry::default() });
     for (id, share) in listed(&request.listing) {
-        entries[id] = Entry {
-            period: share.period,
-            offset: schedule.offsets[id] as u8,
-            bound: share.bound,
-            shortfall: schedule.shortfalls[id] as u16,
-        };
+        entries[id].period = share.period;
+        entries[id].offset = schedule.offsets[id] as u8;
+        entries[id].bound = share.bound;
     }
     Timetable {
         request_slot: request.slot,

@@ -289,7 +289,7 @@ fn add_listing(figures: &mut Figures) {
     figures.phrase(section, "its shortfall starts at 0");
     let listed = ids(&asked_b().listing);
     let (newly, before): (Vec<u8>, Vec<u8>) =
-        listed.into_iter().partition(|&id| run.newly_listed(id, slot));
+        listed.into_iter().partition(|&id| run.weight(id, slot - 1) == 0);
     let owed = |ids: &[u8]| list_and(ids.iter().map(|&id| run.shortfall(id, slot)));
     let joins = format!("id {}, shortfall {}", list_and(&newly), owed(&newly));
     let stay = format!("ids {}, shortfalls {}", list_and(&before), owed(&before));

@@ -40,10 +40,9 @@ fn any_request(random: &mut Random, base: u64) -> Vec<u8> {
     }
 }
 
-/// The shortfall by all windows that end at a slot, since the id was last newly listed.
+/// The shortfall by all windows that end at a slot, back to slot 0.
 fn largest_excess(run: &Run, id: u8, slot: u64) -> i64 {
-    let since = (0..=slot).rev().find(|&from| run.newly_listed(id, from)).unwrap_or(0);
-    (since..=slot).map(|from| run.excess(id, from..slot)).max().unwrap_or(0)
+    (0..=slot).map(|from| run.excess(id, from..slot)).max().unwrap_or(0)
 }
 
 /// Where the present timetable lists an id, the queries and the windows say what the run says.
@@ -84,7 +83,9 @@ fn the_run_agrees_with_queries_and_windows() {
 /// An id is newly listed where it joins, where it returns, and where it returns within one slot.
 #[test]
 fn newly_listed() {
-    let listed = |run: &Run, slot: u64| [0, 1, 2].map(|id| run.newly_listed(id, slot));
+    let listed = |run: &Run, slot: u64| {
+        [0, 1, 2].map(|id| run.weight(id, slot) > 0 && (slot == 0 || run.weight(id, slot - 1) == 0))
+    };
     let b = run_b();
     assert_eq!(listed(&b, 0), [true, true, false]);
     assert_eq!(listed(&b, 6), [false, false, true]);

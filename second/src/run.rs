@@ -1,5 +1,5 @@
-//! The run of slots that accepted timetables make, one after another: who has each slot, who is
-//! newly listed in it, and each id's entitlement, supply and shortfall, slot by slot.
+//! The run of slots that accepted timetables make, one after another: who has each slot, and each
+//! id's entitlement, supply and shortfall, slot by slot from the empty controller's first.
 
 use crate::change::{change, AREA};
 use crate::queries::owner_query;
@@ -60,22 +60,11 @@ impl Run {
         self.share(id, slot).map_or(0, |share| share.weight())
     }
 
-    /// An id is newly listed at a slot: a timetable accepted for it lists the id, and the one
-    /// before did not, or had it newly listed at the same slot.
-    pub fn newly_listed(&self, id: u8, slot: u64) -> bool {
-        newly(&self.accepted, id, slot)
-    }
-
-    /// An id's shortfall at the start of a slot: the slots from 0 pass one by one.
+    /// An id's shortfall at the start of a slot: the slots from 0 pass one by one, and those in which
+    /// it is not listed add nothing.
     pub fn shortfall(&self, id: u8, slot: u64) -> i64 {
         (0..slot).fold(0, |shortfall, passed| {
-            let own = self.owner(passed) == id;
-            let over = next_shortfall(shortfall, self.weight(id, passed), own);
-            if self.newly_listed(id, passed + 1) {
-                0
-            } else {
-                over
-            }
+            next_shortfall(shortfall, self.weight(id, passed), self.owner(passed) == id)
         })
     }
 
@@ -98,16 +87,4 @@ impl Run {
     pub fn excess(&self, id: u8, window: Range<u64>) -> i64 {
         self.entitlement(id, window.clone()) - CYCLE as i64 * self.supply(id, window)
     }
-}
-
-/// Whether an id is newly listed at a slot, by the timetables accepted so far.
-fn newly(accepted: &[Timetable], id: u8, slot: u64) -> bool {
-    let Some((last, before)) = accepted.split_last() else {
-        return false;
-    };
-    if last.request_slot > slot {
-        return newly(before, id, slot);
-    }
-    let was_listed = before.last().is_some_and(|timetable| timetable.lists(id));
-    last.request_slot == slot && last.lists(id) && (!was_listed || newly(before, id, slot))
 }

@@ -3,7 +3,7 @@
 
 use crate::timetable::{Entry, Listing, Share, Timetable, CYCLE, IDLE, IDS, LARGEST_BOUND};
 
-/// The shortfalls of all ids in 256ths of a slot, 0 for ids that are not listed.
+/// The shortfalls of all ids, listed or not, in 256ths of a slot.
 pub type Shortfalls = [i64; IDS];
 
 /// Over one slot the shortfall becomes the larger of 0 and shortfall + weight, less 256 if the
@@ -66,7 +66,7 @@ pub fn cycle_owners(entries: &[Entry; IDS]) -> [u8; CYCLE] {
     owners
 }
 
-/// Every listed partition's shortfall over one slot that goes to the owner.
+/// Every listed partition's shortfall over one slot that goes to the owner; the others stay.
 pub fn pass_slot(listing: &Listing, shortfalls: &mut Shortfalls, owner: u8) {
     for (id, share) in listing.iter().enumerate() {
         if let Some(share) = share {
@@ -111,7 +111,7 @@ impl Walk {
         }
     }
 
-    /// One slot passes: its owner has a slice, and every shortfall moves.
+    /// One slot passes: its owner has a slice, and every listed partition's shortfall moves.
     pub fn pass_one(&mut self) {
         let owner = usize::from(self.next_owner());
         for &(id, weight) in &self.weights {

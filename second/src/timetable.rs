@@ -11,6 +11,8 @@ pub const LONGEST_TRANSITION: usize = 64;
 pub const CYCLE: usize = 256;
 /// The largest bound R.
 pub const LARGEST_BOUND: u8 = 8;
+/// The shortfall of an id that is not listed is below 256 times the largest R.
+pub const DEBT_LIMIT: u16 = CYCLE as u16 * LARGEST_BOUND as u16;
 /// The largest exponent k of a period.
 pub const LARGEST_EXPONENT: u8 = 8;
 /// The highest slot in a request or query.
@@ -18,7 +20,8 @@ pub const LAST_SLOT: u64 = (1 << 48) - 1;
 /// The owner given for an idle slot.
 pub const IDLE: u8 = 255;
 
-/// What the timetable holds for one id: period, offset, R and shortfall at the base.
+/// What the timetable holds for one id: period, offset, R and shortfall at the base. Of an id that
+/// is not listed it holds the shortfall alone.
 #[derive(Clone, Copy, Debug, Default, PartialEq, Eq)]
 pub struct Entry {
     pub period: u16,
@@ -31,6 +34,11 @@ impl Entry {
     /// An id is listed if its period is not 0.
     pub fn listed(&self) -> bool {
         self.period != 0
+    }
+
+    /// The share of an id that is listed.
+    fn share(&self) -> Option<Share> {
+        self.listed().then_some(Share { period: self.period, bound: self.bound })
     }
 }
 
@@ -66,9 +74,7 @@ impl Timetable {
 
     /// The shares that are listed, id by id.
     pub fn listing(&self) -> Listing {
-        self.entries.map(|entry| {
-            entry.listed().then_some(Share { period: entry.period, bound: entry.bound })
-        })
+        self.entries.map(|entry| entry.share())
     }
 
     /// The owners of the transition slots, as many as the length says.
@@ -100,11 +106,11 @@ impl Timetable {
             && self.owners.iter().skip(used).all(|&owner| owner == 0)
     }
 
-    /// A listed partition starts below 256 R, every other id at 0.
+    /// A listed partition starts below 256 R, every other id with its shortfall at the base.
     fn starts_sound(&self) -> bool {
-        self.listing().iter().zip(self.starts).all(|(share, start)| match share {
+        self.entries.iter().zip(self.starts).all(|(entry, start)| match entry.share() {
             Some(share) => share.keeps_bound(i64::from(start)),
-            None => start == 0,
+            None => start == entry.shortfall,
         })
     }
 
@@ -119,20 +125,22 @@ impl Timetable {
     }
 }
 
-/// An entry is sound if it is unlisted and all zero, or in range with its bound kept.
+/// An entry is sound if it is in range with its bound kept, or unlisted with nothing but a shortfall
+/// that some R could bear.
 fn entry_sound(entry: &Entry) -> bool {
-    if !entry.listed() {
-        return *entry == Entry::default();
+    match entry.share() {
+        Some(share) => {
+            period_in_range(entry.period)
+                && bound_in_range(entry.bound)
+                && u16::from(entry.offset) < entry.period
+                && first_slice_in_time(entry, share)
+        }
+        None => entry.offset == 0 && entry.bound == 0 && entry.shortfall < DEBT_LIMIT,
     }
-    period_in_range(entry.period)
-        && bound_in_range(entry.bound)
-        && u16::from(entry.offset) < entry.period
-        && first_slice_in_time(entry)
 }
 
 /// The shortfall grows by the weight in each slot before the offset and stays below 256 R.
-fn first_slice_in_time(entry: &Entry) -> bool {
-    let share = Share { period: entry.period, bound: entry.bound };
+fn first_slice_in_time(entry: &Entry, share: Share) -> bool {
     let mut shortfall = i64::from(entry.shortfall);
     for _ in 0..entry.offset {
         shortfall = slots::next_shortfall(shortfall, share.weight(), false);
