@@ -1,7 +1,7 @@
 /* The library as a firmware uses it: a dispatcher beside a task that changes the timetable by cases A, C and E (docs/RULES.md 11.A, 11.C and 11.E),
- * where C with the longest T is answered as B is, and by a request that the method software sent; a service screen, during a change too; an answer that
- * is archived and read; and a stored image at a start, also one of versions 1 to 4. The interrupts are plain calls here. See include/tarnflaw.h. Compiles
- * as C99 and as C++11. */
+ * where C with the longest T is answered as B is, and by a request that the method software sent; an id that leaves and returns with what it is owed; a
+ * service screen, during a change too; an answer that is archived and read; and a stored image at a start, also one of versions 1 to 5. The interrupts
+ * are plain calls here. See include/tarnflaw.h. Compiles as C99 and as C++11. */
 #include <signal.h>
 #include <stdio.h>
 #include <string.h>
@@ -155,6 +155,24 @@ static void print_bounds(void)
     printf(" from slot %u on\n", (unsigned)request_slot(image));
 }
 
+/* Prints the ids that the image in force does not list, each with what it is owed and returns with. No query tells that; it is the same at the request
+ * slot and at the base. */
+static void print_debts(void)
+{
+    const uint8_t *image = images[in_force];
+    unsigned id, owed, all = 0;
+
+    printf("owed while not listed:");
+    for (id = 0; id < TARNFLAW_IDS; id++) {
+        owed = (unsigned)image[273 + 2 * id] << 8 | image[274 + 2 * id];
+        if (image[84 + 6 * id] == 0 && owed > 0)
+            printf(" id %u %u", id, owed);
+        if (image[84 + 6 * id] == 0)
+            all += owed;
+    }
+    printf(all > 0 ? "\n" : " nothing\n");
+}
+
 /* The service screen at a slot: how each listed partition stands, by the image in force. Each slot has one, in a transition too. (A firmware looks at
  * its slot first and then at in_force: if 6 is told, the dispatcher took a copy over in between, and it looks again.) */
 static void screen(uint64_t slot)
@@ -243,6 +261,12 @@ static uint64_t sum_of(const struct stored *s)
     return sum;
 }
 
+/* An image of version 5, and of versions 1 to 4, which has no shortfalls at the request slot: the version that is stored beside each, and the bytes of
+ * the latter. One of version 5 is taken as it is: what ids that are not listed were owed was forgotten there, and is 0. */
+#define IMAGE_VERSION_5 5
+#define OLD_IMAGE 273
+#define OLD_IMAGE_VERSION 1
+
 /* Starts, before the first interrupt: goes on from a stored image at the next slot, or starts empty at slot 0 if anything speaks against it. */
 static void start(const char *name, const struct stored *s)
 {
@@ -250,7 +274,7 @@ static void start(const char *name, const struct stored *s)
     size_t place;
     uint8_t owner;
 
-    if (s->version != TARNFLAW_IMAGE_VERSION)
+    if (s->version != TARNFLAW_IMAGE_VERSION && s->version != IMAGE_VERSION_5)
         against = "other version";
     else if (s->sum != sum_of(s))
         against = "checksum";
@@ -265,10 +289,6 @@ static void start(const char *name, const struct stored *s)
         memcpy(images[0], s->image, TARNFLAW_IMAGE);
     run(against ? 0 : s->slot, against ? 3 : s->slot + 3);
 }
-
-/* An image of versions 1 to 4, which has no shortfalls at the request slot, and the version that is stored beside it. */
-#define OLD_IMAGE 273
-#define OLD_IMAGE_VERSION 1
 
 /* Carries an old image over, as a timetable from its base on, with the next slot: what would be stored of it today. (A firmware tests the checksum of the
  * old bytes first.) A next slot before the base is refused at the start. */
@@ -288,7 +308,8 @@ static struct stored carried_over(const uint8_t *old, uint8_t version, uint64_t 
     return s;
 }
 
-/* Starts from a stored image, from the same with one thing changed, and from one that version 4 would have stored: its first bytes. */
+/* Starts from a stored image, from the same with one thing changed, and from those that versions 5 and 4 would have stored: the latter is its first
+ * bytes. */
 static void starts(struct stored *s)
 {
     struct stored other = *s;
@@ -309,6 +330,10 @@ static void starts(struct stored *s)
     other.slot = 0;
     other.sum = sum_of(&other);
     start("with slots counted from 0 again", &other);
+    other = *s;
+    other.version = IMAGE_VERSION_5;
+    other.sum = sum_of(&other);
+    start("of version 5, as it is", &other);
     memcpy(old, s->image, OLD_IMAGE);
     other = carried_over(old, OLD_IMAGE_VERSION, s->slot);
     start("of version 4, carried over", &other);
@@ -350,6 +375,12 @@ int main(void)
     run(11, 12);
     change("once more, for slot 14", 14, 0, listed_a, sizeof listed_a);
     run(13, 17);
+    print_debts();
+    change("id 2 returns with R 1, for slot 19", 19, 0, listed_e, sizeof listed_e);
+    change("with R 2", 19, 0, listed_c, sizeof listed_c);
+    run(18, 18);
+    watch(19, 21);
+    print_debts();
     starts(&s);
     return 0;
 }

@@ -1,6 +1,6 @@
 /* What include/tarnflaw.h says, tried: each number and each limit, the order in which functions refuse, the forms of image, schedule, request and answer,
- * what a short field asks, the standing during a change, reading answers and writing requests, an old image carried over, and what soundness does not
- * notice. Compiles as C99 and as C++11. */
+ * what a short field asks, what an id that leaves and returns is owed, the standing during a change, reading answers and writing requests, an old image
+ * carried over, and what soundness does not notice. Compiles as C99 and as C++11. */
 #include <stdio.h>
 #include <string.h>
 
@@ -28,7 +28,9 @@ static const uint8_t there_6[] = { SLOT(6), LIMIT(0), LISTED_THERE };
 static const uint8_t there_7[] = { SLOT(7), LIMIT(0), LISTED_THERE };
 static const uint8_t there_8[] = { SLOT(8), LIMIT(0), LISTED_THERE };
 static const uint8_t there_9[] = { SLOT(9), LIMIT(0), LISTED_THERE };
-static const uint8_t leaves[] = { SLOT(7), LIMIT(0), SHORT(0, 2), SHORT(1, 2) };
+static const uint8_t leaves_7[] = { SLOT(7), LIMIT(0), SHORT(0, 2), SHORT(1, 2) };
+static const uint8_t leaves_8[] = { SLOT(8), LIMIT(0), SHORT(0, 2), SHORT(1, 2) };
+static const uint8_t returns_20[] = { SLOT(20), LIMIT(0), SHORT(0, 2), SHORT(1, 2), LIST(2, 1, 2) };
 static const uint8_t case_e_2[] = { SLOT(9), LIMIT(2), LISTED_D };
 static const uint8_t case_e_3[] = { SLOT(9), LIMIT(3), LISTED_D };
 static const uint8_t case_e_64[] = { SLOT(9), LIMIT(TARNFLAW_LONGEST), LISTED_D };
@@ -166,6 +168,17 @@ static void show_image(void)
     show_parts("image", image, parts, sizeof parts / sizeof parts[0]);
 }
 
+/* Prints the bytes of id 2 in the image: period, offset, bound and shortfall at the base, and shortfall at the request slot. */
+static void show_owed(void)
+{
+    size_t i;
+
+    printf("id 2 in the image:");
+    for (i = 93; i < 99; i++)
+        printf(" %02x", image[i]);
+    printf(", %02x %02x\n", image[277], image[278]);
+}
+
 /* Puts a request to an image, and prints what is returned and told, and of the image then its length and each id with its offset and bound. */
 static void change_of(const char *name, const uint8_t *before, const uint8_t *request, size_t request_size)
 {
@@ -203,9 +216,49 @@ static void show_short(void)
     CHANGE_OF("what is there, at slot 8", b, there_8);
     CHANGE_OF("what is there, at slot 9", b, there_9);
 
-    CHANGE_OF("id 2 leaves", b, leaves);
+    CHANGE_OF("id 2 leaves at slot 7", b, leaves_7);
     memcpy(by_short, image, TARNFLAW_IMAGE);
-    CHANGE_OF("id 2 returns with a short field", by_short, there_7);
+    CHANGE_OF("id 2 returns at slot 8 with a short field", by_short, there_8);
+    memcpy(image, b, TARNFLAW_IMAGE);
+}
+
+/* Lets id 2 leave case B's image, which is in force again afterwards, with a whole slot that it is owed, and return in the same slot and later. */
+static void show_debt(void)
+{
+    uint8_t b[TARNFLAW_IMAGE], left[TARNFLAW_IMAGE];
+
+    memcpy(b, image, TARNFLAW_IMAGE);
+    CHANGE_OF("id 2 leaves at slot 8", b, leaves_8);
+    memcpy(left, image, TARNFLAW_IMAGE);
+    show_owed();
+    standing(2, 8, TARNFLAW_IMAGE);
+    CHANGE_OF("id 2 returns at slot 8 with R 1", left, case_d);
+    CHANGE_OF("id 2 returns at slot 8 with a short field", left, case_d_short);
+    CHANGE_OF("id 2 returns at slot 8 with R 2", left, case_d_full);
+    standing(2, 8, TARNFLAW_IMAGE);
+    CHANGE_OF("id 2 returns at slot 20 with R 2", left, returns_20);
+    standing(2, 20, TARNFLAW_IMAGE);
+    memcpy(image, b, TARNFLAW_IMAGE);
+}
+
+/* Makes images with nothing listed, in which id 2 is owed something at the base and at the request slot, and prints which are sound. */
+static void show_owing(void)
+{
+    static const unsigned at_base[] = { 2047, 2048, 2047 }, at_request[] = { 2047, 2048, 2046 };
+    uint8_t b[TARNFLAW_IMAGE];
+    uint8_t number;
+    size_t i;
+
+    memcpy(b, image, TARNFLAW_IMAGE);
+    for (i = 0; i < sizeof at_base / sizeof at_base[0]; i++) {
+        tarnflaw_empty(image, TARNFLAW_IMAGE);
+        image[97] = (uint8_t)(at_base[i] >> 8);
+        image[98] = (uint8_t)at_base[i];
+        image[277] = (uint8_t)(at_request[i] >> 8);
+        image[278] = (uint8_t)at_request[i];
+        number = tarnflaw_owner(image, TARNFLAW_IMAGE, 0, &place, &owner);
+        printf("not listed, id 2 at %u and %u: %u %s\n", at_request[i], at_base[i], number, says(number));
+    }
     memcpy(image, b, TARNFLAW_IMAGE);
 }
 
@@ -527,6 +580,8 @@ int main(void)
     show_image();
     refusals();
     show_short();
+    show_debt();
+    show_owing();
     show_order();
     show_standing();
     show_reading(answer, size);

@@ -7,11 +7,14 @@
  *     8             transition length, 0 to TARNFLAW_LONGEST
  *     9..72         owners, one byte for each transition slot; unused ones 0
  *     73..80        base: request slot + length
- *     81 + 6 * id   period, 2 bytes; 0 where the id is not listed, and then the four below are 0 too
+ *     81 + 6 * id   period, 2 bytes; 0 where the id is not listed, and then offset and bound are 0 too
  *     83 + 6 * id   offset
  *     84 + 6 * id   bound R
  *     85 + 6 * id   shortfall at the base, 2 bytes, in 256ths of a slot
  *     273 + 2 * id  shortfall at the request slot, 2 bytes, in 256ths of a slot
+ *
+ * An id that is not listed keeps the shortfall with which it left, in both places, and returns with it (docs/RULES.md 2.6). No query tells it meanwhile.
+ * One that was never listed has 0.
  *
  * Start with tarnflaw_empty, and hand to each later call the image that the last accepted change left. It may be copied, stored and sent:
  * nothing else is kept. The empty timetable's image is all zero bytes, so memory that was cleared to 0 counts as an empty timetable.
@@ -19,8 +22,9 @@
  * Each function returns a number, TARNFLAW_ACCEPTED or the refusal (docs/RULES.md 7.1). An image of another size than TARNFLAW_IMAGE is refused by
  * TARNFLAW_NOT_SOUND, and so are bytes that are no sound timetable (docs/RULES.md 3.5); only tarnflaw_empty takes any TARNFLAW_IMAGE bytes. Of the two
  * shortfalls sound says, for each listed id: both are below 256 R, and walking the transition leads from the one at the request slot to the one at the
- * base (docs/RULES.md 3.10, 3.13 and 3.14). Where the length is 0 the two are the same. The last three functions have no image: see "Archived answers,
- * and requests from figures". On a refusal no byte of the image or of the area changes. What is told through the other pointers is always written.
+ * base (docs/RULES.md 3.10, 3.13 and 3.14). Where the length is 0 the two are the same. So they are for every other id, and below 2,048, which is 256 x 8.
+ * The last three functions have no image: see "Archived answers, and requests from figures". On a refusal no byte of the image or of the area changes.
+ * What is told through the other pointers is always written.
  *
  * Any bytes may be handed in, and give one result. But sound means possible, not true: the bounds are promised for images that came from calls,
  * not for bytes that were changed elsewhere. See "Stored images".
@@ -45,9 +49,10 @@
  *     each listed id,   12 00 02      id, offset
  *     ids rising
  *
- * As before is the R with which the image lists the id when the request is put to it, and 1 for an id that it does not list, also for one that has left.
- * So a request with short fields is exactly the one that gives these R in full, and one whose fields are all short, with the present ids and periods, is
- * accepted from the base on, with length 0 (docs/RULES.md 1.10 and 1.11). Its offsets may be others. To ask for R 1, or any R, write it in full.
+ * As before is the R with which the image lists the id when the request is put to it, and 1 for an id that it does not list, also for one that has
+ * left. (What left with a shortfall of 256 or more, and returns by a short field, is refused 8: give its R in full, large enough.) So a request with
+ * short fields is exactly the one that gives these R in full, and one whose fields are all short, with the present ids and periods, is accepted from
+ * the base on, with length 0 (docs/RULES.md 1.10 and 1.11). Its offsets may be others. To ask for R 1, or any R, write it in full.
  *
  * Archived answers, and requests from figures
  *
@@ -94,15 +99,15 @@
  * stores an image stores beside it:
  *
  *     the version     TARNFLAW_IMAGE_VERSION. Where another number stands there, it starts from tarnflaw_empty, or refuses to start. (An image of an
- *                     older version can be carried over: "From version 4 to version 5")
+ *                     older version can be carried over: "From version 4 to version 5" and "From version 5 to version 6")
  *     a checksum      of its own, since soundness is none: of 85,935 images that differ from case B's in one byte 217 are sound. Byte 276,
  *                     say, the low byte of id 1's shortfall at the request slot, may hold 0 to 192: with 0 there id 1 stands at 0 at slot 6, and not
  *                     at 192. Byte 84, id 0's R, may hold 1 to 8: with 2 there a short field for id 0 asks R 2
  *     the next slot   since the slots belong to the image. A board that counts from 0 again is refused 6 before the image's request slot; one that
  *                     skips slots, as over a power failure, is told a shortfall as if they had been given
  *
- * So it goes on at the next slot without a gap, or starts empty, and then counts from 0. Before it goes on it asks one query: on a refusal it starts
- * empty too. A change that waits (below) is not in the image in force, and is asked for again.
+ * So it goes on at the next slot without a gap, or starts empty, and then counts from 0, and every shortfall is 0. Before it goes on it asks one query:
+ * on a refusal it starts empty too. A change that waits (below) is not in the image in force, and is asked for again.
  *
  * From version 1 to version 2
  *
@@ -131,7 +136,7 @@
  *
  *     short fields    Where they were sent to ask R 1 of an id that the image lists with a larger R, write R 1 in full now. Where the id has R 1, or is
  *                     not listed, nothing moves; nor does a request in full, as tarnflaw_write_request has always written it
- *     refusals        What was refused 8, 9 or 11 because of that R 1 may be accepted now. No 8 names an id whose field is short
+ *     refusals        What was refused 8, 9 or 11 because of that R 1 may be accepted now. No 8 names an id whose field is short (up to version 5)
  *     acceptances     Such an id keeps its larger R, and so may fall further behind than before. Transition and offsets may be others, too
  *     logs            4 is the version from now on. It tells how a logged request with short fields is read (docs/DICTIONARY.md, "Earlier meanings")
  *
@@ -164,6 +169,27 @@
  * If the old image was sound, and its base is at most TARNFLAW_LAST_SLOT, this one is sound. From the base on it tells the owners and the shortfalls of
  * the old one, slices counted from the base, and each change of it has the answer, and leaves the image, that it would have with the transition still
  * there. Before the base it refuses 6: so a board whose next slot lies in the old transition starts from tarnflaw_empty.
+ *
+ * From version 5 to version 6
+ *
+ * Exchange the header and the archive together. Functions, numbers and the forms of records and images are those of version 5. But an id that leaves keeps
+ * its shortfall, and returns with it, in the same slot or later; up to version 5 it was forgotten, and returned with 0. Its R is forgotten, as it was. What
+ * is asked while no id returns with a shortfall is answered as before. Look at:
+ *
+ *     refusals        8 may name an id that returns, also one whose field is short, which asks R 1. Ask with an R that is large enough, in full. No 8
+ *                     named an id that the image did not list, and what took an 8 for that of a listed id looks again
+ *     scripts         Taking an id out and back clears nothing. A shortfall falls by the id's own slots alone (docs/RULES.md 1.12): what was cleared so
+ *                     up to now, to get a smaller R, is refused 8. No request clears it
+ *     acceptances     An id that returns with a shortfall is more urgent than one that has 0: transition and offsets may be others, and 9 or 11 may
+ *                     come where there was an acceptance
+ *     the screen      tarnflaw_standing tells such an id's shortfall from the slot of its return on, and the column "deficit" with it. While the id is
+ *                     not listed it refuses 10, as it did; what the id is owed then stands in the image
+ *     images          In the bytes of an id that is not listed, period, offset and bound are 0, and the two shortfalls need not be: what took such an
+ *                     id for 0 throughout looks at the period alone. One that was not made by calls has the same below 2,048 in both
+ *     stored images   One of version 5, which is stored with the version 5, has the same form and is sound: it can go on as it is, and has 0 for each
+ *                     id that is not listed, whatever that was owed. Store it with TARNFLAW_IMAGE_VERSION from then on. An older one is carried over as
+ *                     above. A library of version 5 refuses 1 where an id that is not listed has a shortfall: there is no way back with such an image
+ *     logs            6 is the version from now on. It tells how a logged shortfall is read (docs/DICTIONARY.md, "Earlier meanings")
  *
  * Calls that overlap
  *
@@ -259,8 +285,8 @@
 extern "C" {
 #endif
 
-#define TARNFLAW_VERSION 5                   /* the version of the library, to be logged with an answer */
-#define TARNFLAW_IMAGE_VERSION 5             /* the first version whose images mean what they mean today, to be stored beside an image */
+#define TARNFLAW_VERSION 6                   /* the version of the library, to be logged with an answer */
+#define TARNFLAW_IMAGE_VERSION 6             /* the first version whose images mean what they mean today, to be stored beside an image */
 #define TARNFLAW_IMAGE 337                   /* bytes of an image */
 #define TARNFLAW_REQUEST 207                 /* bytes that a request has at most */
 #define TARNFLAW_AREA 231                    /* bytes that an answer has at most, and an answer area at least */
@@ -342,6 +368,8 @@ uint8_t tarnflaw_owner(const uint8_t *image, size_t image_size, uint64_t slot,
  *     place               told: 0
  *     shortfall           told: its shortfall at the slot's start, in 256ths of a slot; 0 on a refusal
  *     slices              told: the slots it has had from the last accepted request slot up to there, its transition slots among them; 0 on a refusal
+ *
+ * While an id is not listed its shortfall stays as it is, and is in the image: bytes 273 + 2 * id.
  *
  * Refuses 1, then 4 (id or slot), then 6 (slot before the last accepted request slot), then 10 (id not listed). */
 uint8_t tarnflaw_standing(const uint8_t *image, size_t image_size, uint8_t id, uint64_t slot,

@@ -1,11 +1,12 @@
 //! The figures of docs/DICTIONARY.md, section by section.
 
+use crate::absences;
 use crate::archived;
 use crate::built::led_to;
 use crate::cases::{
     all_listed, record, request_a, request_b, request_d, request_j_overfull, request_short,
 };
-use crate::change::{Outcome, AREA};
+use crate::change::{bound_before, Outcome, AREA};
 use crate::desk;
 use crate::figures::{aligned, code, in_turn, list, list_and, thousands, Figures};
 use crate::frames::{frame, LONGEST_FRAME, TAG_FRAME};
@@ -20,15 +21,15 @@ use crate::run::Run;
 use crate::screen;
 use crate::slots::{last_offset, room};
 use crate::timetable::{
-    Share, Timetable, CYCLE, IDLE, IDS, LARGEST_BOUND, LARGEST_EXPONENT, LAST_SLOT,
+    Share, Timetable, CYCLE, DEBT_LIMIT, IDLE, IDS, LARGEST_BOUND, LARGEST_EXPONENT, LAST_SLOT,
     LONGEST_TRANSITION,
 };
 use crate::untouched;
 use crate::worked::{
     anew, answer_b, answer_c, answer_e, answered, around_e, asked, asked_a, asked_b, asked_e,
-    bound, by_t_e, bytes_b, bytes_c, bytes_e, ids, least_room, left_and_returned, limit_of,
-    lines_of, mark, offsets, outcome, run_a, run_b, searched_more, share, waiting_e, DETECTOR,
-    LAST_SHOWN, PUMP_LOOP, SLOT_MS, VALVE,
+    bound, by_t_e, bytes_b, bytes_c, bytes_e, ids, least_room, left_and_returned, left_at,
+    limit_of, lines_of, mark, offsets, outcome, run_a, run_b, searched_more, share, waiting_e,
+    DETECTOR, LAST_SHOWN, PUMP_LOOP, SLOT_BACK, SLOT_D, SLOT_MS, VALVE, VERSION_DEBTS,
 };
 use std::mem::size_of_val;
 use std::ops::Range;
@@ -62,6 +63,7 @@ pub fn add_to(figures: &mut Figures) {
     archived::add_to(figures);
     untouched::add_to(figures);
     screen::add_to(figures);
+    absences::add_to(figures);
     add_line(figures);
 }
 
@@ -74,51 +76,99 @@ fn add_head(figures: &mut Figures) {
     let names = format!("{PUMP_LOOP} the pump loop, {DETECTOR} the detector, {VALVE} the valve");
     figures.phrase(title, format!("ids in A to F are {names}"));
     let section = "Shortfall, called \"deficit\" in the lab's column";
+    figures.phrase(section, format!("back to slot {first}, the empty controller's first slot"));
     figures.phrase(section, format!("less {CYCLE} x its supply"));
     figures.phrase(
         section,
         format!("Unit.** {CYCLE}ths of a slot: entitlement is counted in {CYCLE}ths"),
     );
     figures.phrase(section, format!("slots of {CYCLE} each. Below {CYCLE} R the bound R is kept"));
-    figures.phrase(section, "Slots.antt`: 0 where the partition is newly listed");
+    let nothing = Run::empty().shortfall(PUMP_LOOP, first);
+    figures.phrase(section, format!("Slots.antt`: {nothing} at slot {first}"));
     figures.phrase(section, format!("the larger of 0 and (shortfall + weight - {CYCLE} if"));
-    let (a, b) = (run_a().present(), run_b().present());
+    let weight = left_at(SLOT_D).weight(VALVE, SLOT_D);
+    figures.phrase(section, format!("is not listed its weight is {weight} and no slot"));
+    add_column(figures, section);
+}
+
+/// The first entry: where the column comes from, and what is proved of it.
+fn add_column(figures: &mut Figures, section: &str) {
+    let (a, b, left) = (run_a().present(), run_b().present(), left_at(SLOT_D));
     figures.phrase(section, format!("transition (B: slot {})", list(b.request_slot..b.base)));
     let refused = standing_query(&b, PUMP_LOOP, b.request_slot - 1).0;
     figures.phrase(section, format!("Before the request slot it is refused {refused};"));
     let told = |id: u8| [a, b].map(|timetable| standing_query(&timetable, id, b.request_slot).1);
     let both = [PUMP_LOOP, DETECTOR].map(|id| list(in_turn(told(id).into_iter())));
-    figures.phrase(section, format!("of an id that stays (B: {})", list_and(both)));
-    let newly = standing_query(&b, VALVE, b.request_slot).1;
-    figures.phrase(section, format!("one that is newly listed starts at {newly}"));
+    figures.phrase(section, format!("of an id that both list (B: {})", list_and(both)));
+    let refused = standing_query(&left.present(), VALVE, SLOT_BACK).0;
+    figures.phrase(section, format!("Of an id that is not listed the query says {refused}"));
+    let back = left.after(&request_b(SLOT_BACK, 0));
+    let owed = standing_query(&back.present(), VALVE, SLOT_BACK).1;
+    figures.phrase(section, format!("worked through\": {owed} at slot {SLOT_BACK})"));
+    figures.phrase(section, format!("by at most {CYCLE} for each"));
+    figures.phrase(section, format!("below {CYCLE} R at the end of each slot"));
+    figures.phrase(section, format!("What it meant up to version {} stands", VERSION_DEBTS - 1));
+}
+
+/// The windows of an id that end at a slot, from a first one to the empty one.
+fn windows_block(run: &Run, id: u8, first: u64, end: u64) -> String {
+    let name = |from: u64| match end - from {
+        0 => String::from("empty"),
+        _ => slots(&(from..end)),
+    };
+    let width = (first..=end).map(|from| name(from).len()).max().unwrap_or(0);
+    let row = |from: u64| {
+        let entitlement = run.entitlement(id, from..end);
+        let (supply, excess) = (run.supply(id, from..end), run.excess(id, from..end));
+        format!("{:width$}  {entitlement:>11}  {supply:>6}  {excess:>6}", name(from))
+    };
+    let head = format!("{:width$}  entitlement  supply  excess", "window");
+    let rows: Vec<String> = [head].into_iter().chain((first..=end).map(row)).collect();
+    rows.join("\n")
 }
 
 /// The windows of the pump loop that end at case B's slot, from the longest to the empty one.
 fn add_windows(figures: &mut Figures) {
     let section = "The same figure by its windows";
     let (run, end) = (run_a(), asked_b().slot);
-    let row = |from: u64| {
-        let name = match end - from {
-            0 => String::from("empty"),
-            _ => slots(&(from..end)),
-        };
-        let entitlement = run.entitlement(PUMP_LOOP, from..end);
-        let (supply, excess) = (run.supply(PUMP_LOOP, from..end), run.excess(PUMP_LOOP, from..end));
-        format!("{name:12}  {entitlement:>11}  {supply:>6}  {excess:>6}")
-    };
-    let head = String::from("window        entitlement  supply  excess");
-    let rows: Vec<String> = [head].into_iter().chain((0..=end).map(row)).collect();
-    figures.block(&format!("windows that end at slot {end}"), rows.join("\n"));
+    let block = windows_block(&run, PUMP_LOOP, 0, end);
+    figures.block(&format!("windows that end at slot {end}"), block);
     let largest = (0..=end).map(|from| run.excess(PUMP_LOOP, from..end)).max().unwrap_or(0);
     figures.phrase(section, format!("The pump loop (id {PUMP_LOOP})"));
     figures.phrase(section, format!("at the start of slot {end}"));
     figures.phrase(section, format!("Its largest excess is {largest}"));
     let steps = run.shortfall(PUMP_LOOP, end);
     figures.phrase(section, format!("the steps over {} give {steps} too", slots(&(0..end))));
+    add_windows_through(figures, section);
+}
+
+/// The windows of the valve that end behind its first slot after an absence.
+fn add_windows_through(figures: &mut Figures, section: &str) {
+    let (back, first) = (SLOT_D + 3, asked_b().slot);
+    let request = request_b(back, 0);
+    let run = left_at(SLOT_D).after(&request);
+    let end = run.own_slots(VALVE, back..back + CYCLE as u64)[0] + 1;
+    let bound = share(&asked(&request).listing, VALVE).bound;
+    let out = format!("After B the valve (id {VALVE}) is left out at slot {SLOT_D}");
+    figures.phrase(section, format!("{out}, and asked for again at slot {back} with R {bound}"));
+    let absent = slots(&(SLOT_D..back)).replacen('s', "S", 1);
+    figures.phrase(section, format!("{absent} are its absence"));
+    figures.phrase(section, format!("The windows that end at slot {end}"));
+    figures.phrase(section, format!("one that begins in {}", slots(&(0..first))));
+    let block = windows_block(&run, VALVE, first, end);
+    figures.block("windows through an absence", block);
+    let excess = |from: u64| run.excess(VALVE, from..end);
+    let largest = (0..=end).map(excess).max().unwrap_or(0);
+    let longest = slots(&(first..end));
+    figures.phrase(section, format!("The largest excess is {largest}, that of {longest}"));
+    let steps = run.shortfall(VALVE, end);
+    figures.phrase(section, format!("the steps over {} give {steps} too", slots(&(0..end))));
+    let since = (back..=end).map(excess).max().unwrap_or(0);
+    figures.phrase(section, format!("from the return on it would be {since}"));
 }
 
 /// A window's slots, the first and the last.
-fn slots(window: &Range<u64>) -> String {
+pub fn slots(window: &Range<u64>) -> String {
     format!("slots {} to {}", window.start, window.end - 1)
 }
 
@@ -126,7 +176,7 @@ fn slots(window: &Range<u64>) -> String {
 const SPRING: &str = "Last spring's disagreement, worked through";
 
 /// An id's row of shortfalls in a block.
-fn shortfall_row<'a>(
+pub fn shortfall_row<'a>(
     name: &'a str,
     run: &Run,
     id: u8,
@@ -208,7 +258,7 @@ fn breaks(id: u8, shortfall: i64) -> bool {
 }
 
 /// The lines of a block, each with what stands behind it.
-fn with_ends(block: &str, ends: &[String]) -> String {
+pub fn with_ends(block: &str, ends: &[String]) -> String {
     let lines: Vec<String> =
         block.lines().zip(ends).map(|(line, end)| format!("{line}{end}")).collect();
     lines.join("\n")
@@ -257,8 +307,14 @@ fn add_words(figures: &mut Figures) {
     let section = "Words";
     let (run, slot) = (run_a(), asked_b().slot);
     let last = run.own_slots(PUMP_LOOP, 0..slot).pop().unwrap_or(0);
+    figures.phrase(
+        section,
+        format!("any slots in a row, from slot {} on", Run::empty().present().base),
+    );
     let window = format!("A: {}, id {PUMP_LOOP}", slots(&(last + 1..slot)));
-    figures.cell(section, "window", window);
+    let through = slots(&(SLOT_D - 1..SLOT_BACK + 1));
+    let through = format!("out at slot {SLOT_D} and back at slot {SLOT_BACK}: {through}");
+    figures.cell(section, "window", format!("{window}; B, then id {VALVE} {through}"));
     let (of_a, of_b) = (list(ids(&asked_a().listing)), list(ids(&asked_b().listing)));
     figures.cell(section, "listed", format!("A: ids {of_a}; B: ids {of_b}"));
     figures.phrase(section, format!("idle, owner {IDLE} "));
@@ -282,24 +338,28 @@ fn add_words(figures: &mut Figures) {
     figures.cell(section, "run", run);
 }
 
-/// "Words": ids that are newly listed, and one that leaves and returns.
+/// "Words": an id that leaves and returns, its absence, and what it owes.
 fn add_listing(figures: &mut Figures) {
     let section = "Words";
-    let (run, slot) = (run_b(), asked_b().slot);
-    figures.phrase(section, "its shortfall starts at 0");
-    let listed = ids(&asked_b().listing);
-    let (newly, before): (Vec<u8>, Vec<u8>) =
-        listed.into_iter().partition(|&id| run.weight(id, slot - 1) == 0);
-    let owed = |ids: &[u8]| list_and(ids.iter().map(|&id| run.shortfall(id, slot)));
-    let joins = format!("id {}, shortfall {}", list_and(&newly), owed(&newly));
-    let stay = format!("ids {}, shortfalls {}", list_and(&before), owed(&before));
-    figures.cell(section, "newly listed", format!("B at slot {slot}: {joins}; not {stay}"));
-    let base = run.present().base;
-    let (anew, owed) = (left_and_returned(), run.shortfall(PUMP_LOOP, base));
+    let (run, base) = (run_b(), run_b().present().base);
+    let (back, owed) = (left_and_returned(), run.shortfall(PUMP_LOOP, base));
     let asked = format!("left out at slot {base} and asked for again at slot {base}");
-    let starts = format!("shortfall {}, not {owed}", anew.shortfall(PUMP_LOOP, base));
-    let text = format!("B, then id {PUMP_LOOP} {asked}: {starts}");
+    let has = back.shortfall(PUMP_LOOP, base);
+    let has = if has == owed { format!("{owed} before and after") } else { has.to_string() };
+    let text = format!("B, then id {PUMP_LOOP} {asked}: shortfall {has}");
     figures.cell(section, "leaves and returns", text);
+    let back = left_at(SLOT_D).after(&request_b(SLOT_BACK, 0));
+    let away = SLOT_D..SLOT_BACK;
+    let weights = list(in_turn(away.clone().map(|slot| back.weight(VALVE, slot))));
+    figures.phrase(section, format!("Its weight there is {weights}, and it has no slot"));
+    let out = format!("B, then id {VALVE} left out at slot {SLOT_D}");
+    let owed = list(in_turn(away.clone().map(|slot| back.shortfall(VALVE, slot))));
+    let absent = slots(&away);
+    let again = format!("{out} and asked for again at slot {SLOT_BACK}");
+    figures.cell(section, "absence", format!("{again}: {absent}"));
+    figures.phrase(section, format!("a shortfall above {weights}"));
+    figures.phrase(section, format!("by at most {CYCLE} for each"));
+    figures.cell(section, "debt", format!("{out}: {owed} at {absent}"));
 }
 
 /// "Words": placements, lengths, the answer area and soundness.
@@ -328,9 +388,16 @@ fn add_search(figures: &mut Figures) {
 /// "Words": case B's timetable with another base, and with another start.
 fn add_sound(figures: &mut Figures, section: &str) {
     let (b, pump) = (run_b().present(), usize::from(PUMP_LOOP));
-    figures.phrase(section, format!("at the request slot is below {CYCLE} R, 0 where"));
-    let refused = |unsound: Timetable| {
-        format!("refused {}", answered(&Run::empty().with(unsound), &bytes_b()).0.number)
+    let below = thousands(usize::from(DEBT_LIMIT));
+    let absent =
+        format!("of an id that is not listed it is below {below} and the same at the base");
+    figures.phrase(section, format!("at the request slot is below {CYCLE} R, {absent}"));
+    let refused = |timetable: Timetable| {
+        let request = record(timetable.base, 0, &[]);
+        match answered(&Run::empty().with(timetable), &request).0.number {
+            numbers::ACCEPTED => String::from("sound"),
+            number => format!("refused {number}"),
+        }
     };
     let base = b.base + 1;
     let other_base = format!("B with base {base}: {}", refused(Timetable { base, ..b }));
@@ -340,7 +407,24 @@ fn add_sound(figures: &mut Figures, section: &str) {
     let not = format!("leads to {leads} and not to {}", b.entries[pump].shortfall);
     let start = format!("with {} for id {PUMP_LOOP} at the request slot", starts[pump]);
     let other_start = format!("{start}, which {not}: {}", refused(Timetable { starts, ..b }));
-    figures.cell(section, "sound", format!("{other_base}; {other_start}"));
+    let most = DEBT_LIMIT - 1;
+    let empty = format!("nothing listed, and for id {VALVE} {}", owing([most, most], &refused));
+    let more = owing([most + 1, most + 1], &refused);
+    let unlike = owing([most, most - 1], &refused);
+    figures.cell(
+        section,
+        "sound",
+        format!("{other_base}; {other_start}; {empty}; {more}; {unlike}"),
+    );
+}
+
+/// What comes of the empty timetable with two kept shortfalls of the valve.
+fn owing([start, shortfall]: [u16; 2], refused: &dyn Fn(Timetable) -> String) -> String {
+    let mut timetable = Timetable::empty();
+    timetable.starts[usize::from(VALVE)] = start;
+    timetable.entries[usize::from(VALVE)].shortfall = shortfall;
+    let both = [start, shortfall].map(|owed| thousands(usize::from(owed)));
+    format!("{}: {}", list_and(both), refused(timetable))
 }
 
 /// "Words": transition slots, and the one that case E misses.
@@ -486,15 +570,26 @@ fn add_image(figures: &mut Figures) {
     figures.cell(section, "owners", owners);
     figures.phrase(section, format!("| base | {slot} |"));
     figures.cell(section, "base", bytes(base, slot));
-    figures.phrase(section, format!("| {}; all 0 where", list_and(own)));
+    figures.phrase(section, format!("| {}; the first three 0 where", list_and(own)));
     let of = |id: u8| format!("id {id}, {}", bytes(entries + size * usize::from(id), size));
     let row = "each id's period, offset, R and kept shortfall at the base";
     figures.cell(section, row, format!("{}; {}", of(PUMP_LOOP), of(VALVE)));
-    figures.phrase(section, format!("| {start}; 0 where the id is not listed |"));
+    figures.phrase(section, format!("| {start}; the same as at the base where"));
     let starts = entries + size * IDS;
     let of = |id: u8| format!("id {id}, {}", bytes(starts + start * usize::from(id), start));
     let row = "each id's kept shortfall at the request slot";
     figures.cell(section, row, [PUMP_LOOP, DETECTOR, VALVE].map(of).join("; "));
+    let left = image_of(&left_at(SLOT_D).present());
+    let bytes = |from: usize, size: usize| {
+        format!("bytes {from} to {} are {}", from + size - 1, code(&left[from..from + size]))
+    };
+    let valve = usize::from(VALVE);
+    let (entry, owed) = (bytes(entries + size * valve, size), bytes(starts + start * valve, start));
+    figures.phrase(section, format!("period, offset and R are {}", left[entries + size * valve]));
+    let out = format!("After B, with id {VALVE} left out at slot {SLOT_D}");
+    figures.phrase(section, format!("{out}, {entry}, and {owed}"));
+    let refused = standing_query(&left_at(SLOT_D).present(), VALVE, SLOT_D).0;
+    figures.phrase(section, format!("The standing query says {refused} of such an id"));
 }
 
 /// "A frame, as bytes", of case B.
@@ -695,12 +790,22 @@ fn add_stages_refused(figures: &mut Figures) {
     let sum = format!("ids {}, weights {weights}", list_and(ids(&listing)));
     figures.cell(section, OVERFULL, format!("J: {sum}: {}", number_at(&Run::empty(), &request)));
     figures.phrase(section, format!("| {SHORTFALL_TOO_LARGE} | the shortfall of the id"));
-    let (run, request) = (run_b(), request_d(8, LONGEST_TRANSITION as u8));
+    let (run, request) = (run_b(), request_d(SLOT_D, LONGEST_TRANSITION as u8));
+    let (left, valve) = (left_at(SLOT_D).present(), usize::from(VALVE));
     let (slot, bound) = (asked(&request).slot, share(&asked(&request).listing, VALVE).bound);
     let has = format!("id {VALVE} has {} and asks R {bound}", run.shortfall(VALVE, slot));
     let behind = format!("D, after B at slot {slot}: {has}: {}", number_at(&run, &request));
     let short = number_at(&run, &request_short(slot, LONGEST_TRANSITION as u8));
-    figures.cell(section, SHORTFALL_TOO_LARGE, format!("{behind}; by a short field: {short}"));
+    figures.phrase(section, format!("a short field asks R {} of it", bound_before(&left, valve)));
+    let [full, by_short] =
+        [request, request_short(slot, 0)].map(|it| number_at(&left_at(slot), &it));
+    let out = format!("id {VALVE} out and back at slot {slot}, with R {bound}: {full}");
+    let out = format!("{out}; by a short field: {by_short}");
+    figures.cell(
+        section,
+        SHORTFALL_TOO_LARGE,
+        format!("{behind}; by a short field: {short}; {out}"),
+    );
 }
 
 /// "The queries", after case B.
@@ -722,7 +827,7 @@ fn add_queries(figures: &mut Figures) {
     let range = format!("a slot above {} or an id above {}", highest_slot(), IDS - 1);
     let stages = format!("They refuse {NOT_SOUND}; then {OUT_OF_RANGE}, {range}");
     figures.phrase(section, format!("{stages}; then {TOO_EARLY}; the standing"));
-    figures.phrase(section, format!("query then {NOT_LISTED}."));
+    figures.phrase(section, format!("query then {NOT_LISTED}, of an id that is not listed"));
 }
 
 /// "A line of the program".

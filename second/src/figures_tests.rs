@@ -1,7 +1,8 @@
 //! The run against the queries and the windows; the cases by T and by slots, and what an old 9 means;
 //! case B's answer read back, whole, damaged and by fields, and its request written; case D and what is
 //! there by short fields, and the R that a short field asked, found in the archive; the screen through
-//! a change, old numbers of slices and timetables of before CR 4 carried over;
+//! a change, old numbers of slices and timetables of before CR 4 carried over; ids that leave and
+//! return, and what was counted of them before CR 5;
 //! documents that differ from the figures in a block, an example, the prose or a marker; and every
 //! digit of the dictionary and of docs/WORKED.md.
 
@@ -17,13 +18,14 @@ use crate::queries::{owner_query, standing_query};
 use crate::random::Random;
 use crate::records::{read_request, with_longest, write_answer, Ask};
 use crate::run::Run;
-use crate::timetable::{Timetable, IDLE, LAST_SLOT};
+use crate::timetable::{Entry, Timetable, IDLE, LAST_SLOT};
 use crate::worked::{
-    anew, answer_b, answer_e, answered, as_there, asked, asks_there, before_cr_3, bound_by_archive,
-    broken, by_longest, bytes_e, bytes_longer, bytes_with, carried_over, ids, in_full,
-    left_and_returned, lines_of, nine_before, nine_today, nine_without_longest, only_owners,
-    own_in_transition, request_with, run_a, run_b, slots_from_records, Archived, Field, Waiting,
-    VERSION_AS_BEFORE, VERSION_STANDING,
+    after_before_cr_5, anew, answer_b, answer_e, answered, as_there, asked, asked_after,
+    asks_there, before_cr_3, bound_by_archive, broken, by_longest, bytes_e, bytes_longer,
+    bytes_with, carried_over, forgetful, ids, in_full, left_and_returned, left_at, lines_of,
+    nine_before, nine_today, nine_without_longest, only_owners, own_in_transition, request_with,
+    run_a, run_b, slots_from_records, Archived, Field, Waiting, VERSION_AS_BEFORE, VERSION_DEBTS,
+    VERSION_STANDING,
 };
 use std::ops::Range;
 
@@ -80,22 +82,116 @@ fn the_run_agrees_with_queries_and_windows() {
     assert!(lengths > 20, "transitions are among them: {lengths}");
 }
 
-/// An id is newly listed where it joins, where it returns, and where it returns within one slot.
+/// An id that leaves and returns, in one slot or later, stands where it stood.
 #[test]
-fn newly_listed() {
-    let listed = |run: &Run, slot: u64| {
-        [0, 1, 2].map(|id| run.weight(id, slot) > 0 && (slot == 0 || run.weight(id, slot - 1) == 0))
+fn leaving_and_returning() {
+    let (b, returned) = (run_b(), left_and_returned());
+    assert_eq!((b.shortfall(0, 7), returned.shortfall(0, 7)), (192, 192));
+    assert_eq!((returned.present().request_slot, returned.present().starts[0]), (7, 192));
+    let away = b.after(&record(7, 0, &[]));
+    let later = away.after(&record(9, 0, &[(0, 2, 1)]));
+    assert_eq!([7, 8, 9].map(|slot| later.shortfall(0, slot)), [192; 3]);
+    assert_eq!(standing_query(&later.present(), 0, 9), (0, 192, 0));
+    assert_eq!([7, 9, 300].map(|slot| later.shortfall(2, slot)), [128; 3]);
+}
+
+/// The supplier's script, as docs/RULES.md 11.5 has it.
+#[test]
+fn worked_script() {
+    let left = left_at(8);
+    assert_eq!(left.present().entries[2], Entry { shortfall: 256, ..Entry::default() });
+    assert_eq!((left.present().starts[2], standing_query(&left.present(), 2, 8).0), (256, 10));
+    let told = |request: &[u8]| {
+        let it = answered(&left, request).0;
+        (it.number, it.place, [0, 1, 2].map(|id| it.timetable.entries[id].offset))
     };
-    let b = run_b();
-    assert_eq!(listed(&b, 0), [true, true, false]);
-    assert_eq!(listed(&b, 6), [false, false, true]);
-    assert_eq!(listed(&b, 7), [false; 3]);
-    let returned = left_and_returned();
-    assert_eq!(listed(&returned, 7), [true, false, false]);
-    assert_eq!((b.shortfall(0, 7), returned.shortfall(0, 7)), (192, 0));
-    assert_eq!(returned.present().request_slot, 7);
-    let later = b.after(&record(7, 0, &[])).after(&record(9, 0, &[(0, 2, 1)]));
-    assert_eq!(listed(&later, 9), [true, false, false]);
+    for slot in [8, 20] {
+        assert_eq!([request_d, request_short].map(|it| told(&it(slot, 0)).0), [8; 2]);
+        assert_eq!([request_d, request_short].map(|it| told(&it(slot, 64)).1), [2; 2]);
+        assert_eq!(told(&request_b(slot, 0)), (0, 0, [0, 2, 1]));
+        let back = left.after(&request_b(slot, 0));
+        let owed = [slot, slot + 1, slot + 2].map(|at| standing_query(&back.present(), 2, at).1);
+        assert_eq!(owed, [256, 384, 256]);
+    }
+}
+
+/// The script before CR 5: accepted with R 1, with the slots that it has today with R 2.
+#[test]
+fn worked_script_before_cr_5() {
+    let left = after_before_cr_5(&run_b(), &request_left(8, 0));
+    assert_eq!(left.present().starts[2], 0);
+    for slot in [8, 20] {
+        let old = after_before_cr_5(&left, &request_d(slot, 0));
+        let today = left_at(8).after(&request_b(slot, 0));
+        assert_eq!((old.present().request_slot, bounds(&old)), (slot, [1, 1, 1]));
+        assert!((0..300).all(|at| old.owner(at) == today.owner(at)));
+        let told = [slot, slot + 1, slot + 2].map(|at| standing_query(&old.present(), 2, at).1);
+        assert_eq!(told, [0, 128, 0]);
+        let owed = [slot, slot + 1, slot + 2].map(|at| old.shortfall(2, at));
+        assert_eq!(owed, [256, 384, 256]);
+    }
+}
+
+/// A debt below a whole slot leaves room for R 1, and is worked off by the first slot.
+#[test]
+fn worked_debt_worked_off() {
+    let back = left_at(9).after(&request_d(20, 0));
+    assert_eq!([0, 1, 2].map(|id| back.present().entries[id].offset), [3, 1, 0]);
+    let owed = |slots: Range<u64>| slots.map(|slot| back.shortfall(2, slot)).collect::<Vec<_>>();
+    assert_eq!(owed(8..21), [vec![256], vec![128; 12]].concat());
+    assert_eq!((owed(21..25), back.own_slots(2, 9..23)), (vec![0, 128, 0, 128], vec![20, 22]));
+}
+
+/// What the archive knows of an id before CR 5: since when it was counted, and by how much more it
+/// was owed by today's meaning, on the same slots, where it was looked at last.
+#[derive(Clone, Copy, Default)]
+struct Counted {
+    since: u64,
+    more: i64,
+}
+
+/// At a slot of a run of before CR 5 the column says the largest excess since the id was counted; on
+/// the same slots today's figure is as large or larger, by no more than it was before, and both are
+/// 0 where today's is.
+fn counted_at(run: &Run, id: u8, slot: u64, was: Counted) -> Counted {
+    let told = i64::from(standing_query(&run.present(), id, slot).1);
+    let since = (was.since..=slot).map(|from| run.excess(id, from..slot)).max();
+    assert_eq!(Some(told), since);
+    let more = run.shortfall(id, slot) - told;
+    assert!(0 <= more && more <= was.more && (more == 0 || run.shortfall(id, slot) > 0));
+    Counted { more, ..was }
+}
+
+/// Before CR 5 an id was counted anew wherever it returned; today's figure differs only for one that
+/// left with a shortfall, at first by that.
+#[test]
+fn counted_before_cr_5() {
+    let mut random = Random::new(61);
+    let (mut run, mut counted) = (Run::empty(), [Counted::default(); 4]);
+    let (mut differ, mut gone) = (0, 0);
+    for step in 0..1500 {
+        if step % 10 == 0 {
+            (run, counted) = (Run::empty(), [Counted::default(); 4]);
+        }
+        let (before, request) = (run.clone(), any_short(&mut random, run.present().base));
+        run = after_before_cr_5(&run, &request);
+        let (was, is) = (before.present(), run.present());
+        assert!(is.sound() && forgetful(&is) == is);
+        for (id, counted) in (0..).zip(&mut counted) {
+            let had = counted.more;
+            if was.lists(id) {
+                let passed = was.request_slot..=is.request_slot;
+                *counted =
+                    passed.fold(*counted, |counted, slot| counted_at(&before, id, slot, counted));
+                gone += usize::from(had > 0 && counted.more == 0);
+            } else if is.lists(id) {
+                let more = run.shortfall(id, is.request_slot);
+                *counted = Counted { since: is.request_slot, more };
+                differ += usize::from(more > 0);
+            }
+        }
+    }
+    assert!(differ > 100 && gone > 10, "both are among them: {differ}, {gone}");
 }
 
 /// The figures that documents work through, as docs/RULES.md 11 has them.
@@ -389,8 +485,14 @@ fn worked_short_field() {
     assert_eq!(bounds(&run_b().after(&request_short(8, 64))), [1, 1, 2]);
     let left = run_b().after(&request_left(7, 0));
     assert_eq!(bounds(&left), [1, 1, 0]);
-    let returned = [7, 9].map(|slot| bounds(&left.after(&request_short(slot, 0))));
-    assert_eq!(returned, [[1, 1, 1]; 2]);
+    let returned = left.after(&request_short(8, 0));
+    assert_eq!(
+        (bounds(&returned), [0, 1, 2].map(|id| returned.present().entries[id].offset)),
+        ([1, 1, 1], [3, 1, 0])
+    );
+    let again =
+        |slot: u64| asked_after(&left, &request_short(slot, 0)).listing[2].map(|it| it.bound);
+    assert_eq!([7, 9].map(again), [Some(1); 2]);
 }
 
 /// What is there after case B is accepted at its base and behind it, at some slots with other slots;
@@ -464,49 +566,63 @@ fn bounds_by_the_archive() {
     assert!(accepted > 1000 && otherwise > 100, "{accepted} and {otherwise} are among them");
 }
 
+/// The header.
+const HEADER: &str = include_str!("../../include/tarnflaw.h");
+
 /// The version that takes a short field as before is the one that the header tells of.
 #[test]
 fn version_of_the_header() {
-    let header = include_str!("../../include/tarnflaw.h");
-    let heading =
-        format!("From version {} to version {VERSION_AS_BEFORE}\n", VERSION_AS_BEFORE - 1);
-    let told =
-        header.split(&heading).nth(1).and_then(|rest| rest.split(" * Calls that overlap").next());
-    assert!(told.is_some_and(|told| told.contains("a short field asked R 1 of every id")));
+    let told = told_of_version(VERSION_AS_BEFORE);
+    assert!(told.contains("a short field asked R 1 of every id"));
 }
 
-/// The version that tells the standing from the request slot on is the one that the header tells of,
-/// and so are its images.
+/// What the header tells of the step to a version.
+fn told_of_version(version: u8) -> &'static str {
+    let heading = format!("From version {} to version {version}\n", version - 1);
+    let rest = HEADER.split(&heading).nth(1).unwrap_or("");
+    let ends = [" * From version ", " * Calls that overlap"];
+    ends.iter().fold(rest, |told, end| told.split(end).next().unwrap_or(""))
+}
+
+/// The version that tells the standing from the request slot on is the one that the header tells of.
+#[test]
+fn version_of_the_standing() {
+    let told = told_of_version(VERSION_STANDING);
+    assert!(told.contains("counted from the request slot on, and were"));
+}
+
+/// The version in which a debt is kept is the one that the header tells of, and its images are.
 #[test]
 fn version_of_the_image() {
-    let header = include_str!("../../include/tarnflaw.h");
-    let heading = format!("From version {} to version {VERSION_STANDING}\n", VERSION_STANDING - 1);
-    let told =
-        header.split(&heading).nth(1).and_then(|rest| rest.split(" * Calls that overlap").next());
-    assert!(told.is_some_and(|told| told.contains("counted from the request slot on, and were")));
-    let defined = |name: &str, value: usize| header.contains(&format!("#define {name} {value} "));
-    assert!(defined("TARNFLAW_IMAGE_VERSION", usize::from(VERSION_STANDING)));
+    assert!(told_of_version(VERSION_DEBTS).contains("it was forgotten, and returned with 0"));
+    let defined = |name: &str, value: usize| HEADER.contains(&format!("#define {name} {value} "));
+    assert!(defined("TARNFLAW_VERSION", usize::from(VERSION_DEBTS)));
+    assert!(defined("TARNFLAW_IMAGE_VERSION", usize::from(VERSION_DEBTS)));
     assert!(defined("TARNFLAW_IMAGE", IMAGE));
 }
 
-/// An 8 names no id whose field is short.
+/// An 8 names an id whose field is short only where it returns with a whole slot or more.
 #[test]
-fn short_fields_are_not_behind() {
+fn short_fields_are_behind_where_they_return() {
     let mut random = Random::new(47);
     let mut run = Run::empty();
-    let mut behind = 0;
+    let (mut behind, mut returning) = (0, 0);
     for step in 0..6000 {
         run = if step % 10 == 0 { Run::empty() } else { run };
         let request = any_short(&mut random, run.present().base);
         let answer = answered(&run, &request).0;
         if answer.number == 8 {
-            let asks = read_request(&request).map(|read| read.asks[answer.place as usize]);
-            assert!(matches!(asks, Ok(Some(Ask { bound: Some(_), .. }))), "{answer:?}");
+            let (id, slot) = (answer.place as u8, asked(&request).slot);
+            let asks = read_request(&request).map(|read| read.asks[usize::from(id)]);
+            if !matches!(asks, Ok(Some(Ask { bound: Some(_), .. }))) {
+                assert!(!run.present().lists(id) && run.shortfall(id, slot) >= 256, "{answer:?}");
+                returning += 1;
+            }
             behind += 1;
         }
         run = run.after(&request);
     }
-    assert!(behind > 50, "refusals 8 are among them: {behind}");
+    assert!(behind > 50 && returning > 20, "both are among them: {behind}, {returning}");
 }
 
 /// What is there is granted, at any slot from the base on, after random histories.

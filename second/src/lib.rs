@@ -28,6 +28,7 @@ pub mod short_counts;
 pub mod standing_counts;
 pub mod timetable;
 
+mod absences;
 mod archived;
 mod damage;
 mod desk;

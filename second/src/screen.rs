@@ -3,16 +3,17 @@
 
 use crate::built::led_to;
 use crate::cases::request_short;
-use crate::figures::{aligned, in_turn, list, list_and, Figures};
+use crate::figures::{aligned, in_turn, list, list_and, thousands, Figures};
 use crate::numbers::{ACCEPTED, NOT_SOUND, TOO_EARLY};
 use crate::probe::IMAGE;
 use crate::queries::standing_query;
 use crate::records::TAG_OWNERS;
 use crate::run::Run;
-use crate::timetable::{Share, Timetable, CYCLE};
+use crate::timetable::{Share, Timetable, CYCLE, DEBT_LIMIT};
 use crate::worked::{
-    answer_b, asked, bytes_longer, carried_over, ids, mark, name, own_in_transition, run_a, run_b,
-    share, DETECTOR, LINK, PUMP_LOOP, VALVE, VERSION_STANDING,
+    answer_b, asked, bytes_longer, carried_over, forgetful, ids, left_at, mark, name,
+    own_in_transition, run_a, run_b, share, DETECTOR, LINK, PUMP_LOOP, SLOT_D, VALVE,
+    VERSION_STANDING,
 };
 use std::mem::size_of_val;
 use std::ops::Range;
@@ -49,11 +50,10 @@ pub fn kept(timetable: &Timetable) -> [Vec<u16>; 2] {
 pub fn add_kept(figures: &mut Figures, section: &str) {
     let b = run_b().present();
     let [starts, ends] = kept(&b);
-    let newly = b.starts[usize::from(VALVE)];
     let unit = format!("{CYCLE}ths of a slot");
-    figures.phrase(section, format!("and {newly} where it is newly listed | {unit}"));
+    figures.phrase(section, format!("or what it is owed while it is not listed | {unit}"));
     figures.cell(section, "kept shortfall at the request slot, the start", list(&starts));
-    figures.phrase(section, format!("what the transition leaves it with | {unit}"));
+    figures.phrase(section, format!("the same as at the request slot | {unit}"));
     figures.cell(section, "kept shortfall at the base", list(&ends));
     let leads = list(listed(&b).into_iter().map(|id| {
         let start = b.starts[usize::from(id)];
@@ -66,6 +66,11 @@ pub fn add_kept(figures: &mut Figures, section: &str) {
     figures.phrase(section, format!("With length {} request slot and base", short.length));
     let both = kept(&short).map(list).join(" and ");
     figures.phrase(section, format!("(D with a short field, at slot {slot}: {both})"));
+    let left = left_at(SLOT_D).present();
+    let owed = [left.starts[usize::from(VALVE)], left.entries[usize::from(VALVE)].shortfall];
+    let (at, below) = (left.request_slot, thousands(usize::from(DEBT_LIMIT)));
+    let owes = format!("(B, then id {VALVE} left out at slot {at}: {})", list_and(owed));
+    figures.phrase(section, format!("and it is below {below} {owes}"));
 }
 
 /// How an id stands at a slot, in words.
@@ -236,8 +241,9 @@ fn add_blank(figures: &mut Figures) {
     figures.phrase(EARLIER, format!("*An old {number}.*"));
     let told = |id: u8| standing_query(&a, id, b.request_slot).1;
     let before = list_and([told(PUMP_LOOP), told(DETECTOR)]);
-    let newly = standing_query(&b, VALVE, b.request_slot).1;
-    figures.phrase(EARLIER, format!("before the change (B: {before}; newly listed: {newly})"));
+    let joins = standing_query(&b, VALVE, b.request_slot).1;
+    let joins = format!("an id that was not listed before began at {joins}");
+    figures.phrase(EARLIER, format!("before the change (B: {before}; {joins})"));
     let (first, last) = (VERSION_STANDING, VERSION_STANDING - 1);
     let none = format!("No version from {first} on gives such a {number}");
     figures.phrase(EARLIER, format!("{none}, and none up to {last} told"));
@@ -247,7 +253,10 @@ fn add_blank(figures: &mut Figures) {
 fn add_old_image(figures: &mut Figures) {
     let was = image_before();
     let mean = format!("Its {was} bytes mean what the first {was} of an image mean today");
-    figures.phrase(EARLIER, format!("{mean}, and every function refuses them {NOT_SOUND}"));
+    figures.phrase(EARLIER, mean);
+    let absent = forgetful(&left_at(SLOT_D).present()).starts[usize::from(VALVE)];
+    figures.phrase(EARLIER, format!("but that an id that is not listed has {absent} there"));
+    figures.phrase(EARLIER, format!("every function refuses them {NOT_SOUND}"));
     let (last, first) = (VERSION_STANDING - 1, VERSION_STANDING);
     figures.phrase(EARLIER, format!("\"From version {last} to version {first}\""));
 }

@@ -10,8 +10,8 @@ use crate::run::Run;
 use crate::timetable::{CYCLE, LARGEST_EXPONENT, LONGEST_TRANSITION};
 use crate::worked::{
     answered, as_before, as_there, asked_after, asks_there, before_cr_3, bound_by_archive, bytes_b,
-    ids, limit_of, name, offsets, outcome, request_with, run_a, run_b, share, Archived, Field,
-    DETECTOR, LAST_SHOWN, PUMP_LOOP, VALVE, VERSION_AS_BEFORE,
+    ids, left_at, limit_of, name, offsets, outcome, request_with, run_a, run_b, share, Archived,
+    Field, DETECTOR, LAST_SHOWN, PUMP_LOOP, SLOT_D, VALVE, VERSION_AS_BEFORE, VERSION_DEBTS,
 };
 
 /// The figures of each part.
@@ -31,9 +31,6 @@ pub fn add_to(figures: &mut Figures) {
 const SHORT: &str = "The short field: R as before";
 const THERE: &str = "What is there is granted";
 const EARLIER: &str = "Earlier meanings";
-
-/// The slot of case D.
-const SLOT_D: u64 = 8;
 
 /// The largest T.
 const LONGEST: u8 = LONGEST_TRANSITION as u8;
@@ -60,10 +57,10 @@ fn add_sources(figures: &mut Figures) {
     figures.phrase(SHORT, format!("| is not listed | R {new} |"));
     figures.cell(SHORT, "is not listed", format!("after A: R {new} for id {VALVE}"));
     let (base, had) = (b.present().base, bound_before(&b.present(), usize::from(VALVE)));
-    let returned = b.after(&request_left(base, 0)).after(&request_short(base, 0));
+    let returned = b.after(&request_left(base, 0)).after(&request_short(base + 1, 0));
     let has = bound_before(&returned.present(), usize::from(VALVE));
-    figures.phrase(SHORT, format!("| has left | R {has}: it was forgotten"));
-    let slots = format!("left out at slot {base} and asked for again at slot {base}");
+    figures.phrase(SHORT, format!("| has left | R {has}: its R is forgotten"));
+    let slots = format!("left out at slot {base} and asked for again at slot {}", base + 1);
     let text = format!("B, then id {VALVE} {slots} by a short field: R {has}, not {had}");
     figures.cell(SHORT, "has left", text);
     figures.phrase(SHORT, format!("an R of its own, be it {new}, or"));
@@ -75,7 +72,7 @@ fn asks_valve(request: &[u8]) -> u8 {
 }
 
 /// The offsets of an acceptance.
-fn placed(outcome: &Outcome) -> String {
+pub fn placed(outcome: &Outcome) -> String {
     match outcome.number {
         ACCEPTED => list(offsets(&outcome.timetable)),
         _ => String::from("none"),
@@ -114,7 +111,7 @@ fn add_short_d(figures: &mut Figures) {
 }
 
 /// The bytes of an id's field in a request: the last one, as here.
-fn field_of(request: &[u8], id: u8) -> &[u8] {
+pub fn field_of(request: &[u8], id: u8) -> &[u8] {
     let forms = [Some(0), None].map(|bound| share_field(id, 0, bound).len());
     let ends = |size: &usize| {
         let field = &request[request.len() - size..];
@@ -127,10 +124,12 @@ fn field_of(request: &[u8], id: u8) -> &[u8] {
 fn add_judged(figures: &mut Figures) {
     let refused = list_and([SHORTFALL_TOO_LARGE, SLOT_MISSED, LENGTHS_EXHAUSTED]);
     figures.phrase(SHORT, format!("The refusals {refused} go by the R that is found"));
-    figures.phrase(SHORT, format!("And no {SHORTFALL_TOO_LARGE} names an id"));
-    let newly = run_b().shortfall(VALVE, run_b().present().request_slot);
-    figures.phrase(SHORT, format!("its shortfall is below {CYCLE} x the R"));
-    figures.phrase(SHORT, format!("or {newly} where it is newly listed"));
+    let listed = format!("its shortfall is below {CYCLE} x the R with which it is listed");
+    figures.phrase(SHORT, format!("And no {SHORTFALL_TOO_LARGE} names a listed id"));
+    figures.phrase(SHORT, listed);
+    let asks = asks_short(&left_at(SLOT_D), VALVE);
+    let owes = format!("R {asks} is asked of it, and its shortfall is not below {CYCLE}");
+    figures.phrase(SHORT, format!("An {SHORTFALL_TOO_LARGE} may name one that returns: {owes}"));
 }
 
 /// The first slots at which what is there may be asked for after case B.
@@ -304,5 +303,8 @@ fn add_otherwise(figures: &mut Figures) {
     let head = String::from("at slot  before  place  today  place");
     let rows: Vec<String> = [head].into_iter().chain(asked_at().into_iter().map(row)).collect();
     figures.block("a short field before CR 3 and today", rows.join("\n"));
-    figures.phrase(EARLIER, format!("there an {behind} that has the id"));
+    figures.phrase(EARLIER, format!("There an {behind} that has the id"));
+    let (old, new) = (VERSION_AS_BEFORE - 1, VERSION_DEBTS);
+    figures.phrase(EARLIER, format!("a version up to {old} if that id was listed"));
+    figures.phrase(EARLIER, format!("and one from {new} on if it was not"));
 }

@@ -2,11 +2,11 @@
 
 use crate::archive::read_answer;
 use crate::asking::Asking;
-use crate::cases::{record, request_a, request_b, request_d};
+use crate::cases::{record, request_a, request_b, request_d, request_left};
 use crate::change::{change, Outcome, Request, AREA};
 use crate::figures::aligned;
 use crate::frames::{frame, print_lines};
-use crate::numbers::{LENGTHS_EXHAUSTED, SLOT_MISSED};
+use crate::numbers::{ACCEPTED, LENGTHS_EXHAUSTED, SLOT_MISSED};
 use crate::records::{longest_field, read_request, share_field, slot_field};
 use crate::run::Run;
 use crate::slots::{pass_slot, room, Shortfalls};
@@ -27,6 +27,14 @@ pub const VERSION_AS_BEFORE: u8 = 4;
 /// The first version of the library that tells the standing from the request slot on
 /// (include/tarnflaw.h).
 pub const VERSION_STANDING: u8 = 5;
+
+/// The first version of the library in which an id that leaves keeps its shortfall
+/// (include/tarnflaw.h).
+pub const VERSION_DEBTS: u8 = 6;
+
+/// The slot of case D, and the slot at which an id that left there is back (docs/RULES.md 11.5).
+pub const SLOT_D: u64 = 8;
+pub const SLOT_BACK: u64 = 20;
 
 /// The last slot that the documents show of case B.
 pub const LAST_SHOWN: u64 = 14;
@@ -146,11 +154,10 @@ pub fn broken(listing: &Listing, shortfalls: &Shortfalls, owner: u8) -> Vec<u8> 
     ids(listing).into_iter().filter(breaks).collect()
 }
 
-/// The shortfalls with which the ids of a request enter the change; one newly listed enters with 0.
+/// The shortfalls with which the ids of a request enter the change.
 fn at_request(run: &Run, asked: &Request) -> Shortfalls {
-    let stays = |id: &u8| run.present().lists(*id) && asked.listing[usize::from(*id)].is_some();
-    let owed = |id: u8| Some(id).filter(stays).map_or(0, |id| run.shortfall(id, asked.slot));
-    std::array::from_fn(|id| owed(id as u8))
+    let enters = |id: usize| asked.listing[id].map(|_| run.shortfall(id as u8, asked.slot));
+    std::array::from_fn(|id| enters(id).unwrap_or(0))
 }
 
 /// A transition slot: its slot of the core, the shortfalls at its start, and who can have it so
@@ -330,6 +337,31 @@ pub fn carried_over(timetable: &Timetable) -> Timetable {
         starts: timetable.entries.map(|entry| entry.shortfall),
         ..*timetable
     }
+}
+
+/// A timetable as it was kept before CR 5: an id that is not listed was forgotten with what it owed.
+pub fn forgetful(timetable: &Timetable) -> Timetable {
+    let mut forgetful = *timetable;
+    for (entry, start) in forgetful.entries.iter_mut().zip(&mut forgetful.starts) {
+        if !entry.listed() {
+            (entry.shortfall, *start) = (0, 0);
+        }
+    }
+    forgetful
+}
+
+/// The run after one more request as it was before CR 5: what is accepted is kept without the debts
+/// of ids that are not listed.
+pub fn after_before_cr_5(run: &Run, request: &[u8]) -> Run {
+    match answered(run, request).0 {
+        Outcome { number: ACCEPTED, timetable, .. } => run.with(forgetful(&timetable)),
+        _ => run.clone(),
+    }
+}
+
+/// After case B the valve is left out at a slot.
+pub fn left_at(slot: u64) -> Run {
+    run_b().after(&request_left(slot, 0))
 }
 
 /// The transition slots that an id had, by the answer record alone: what a number of slices from
