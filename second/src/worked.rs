@@ -339,7 +339,7 @@ pub fn carried_over(timetable: &Timetable) -> Timetable {
     }
 }
 
-/// A timetable as it was kept before CR 5: an id that is not listed was forgotten with what it owed.
+/// A timetable as it was kept before CR 5: an id that is not listed was forgotten with what it was owed.
 pub fn forgetful(timetable: &Timetable) -> Timetable {
     let mut forgetful = *timetable;
     for (entry, start) in forgetful.entries.iter_mut().zip(&mut forgetful.starts) {
