@@ -16,6 +16,7 @@ use crate::worked::{
     after_before_cr_5, answered, asked_after, asked_b, forgetful, left_at, limit_of, mark, offsets,
     outcome, run_b, share, LAST_SHOWN, SLOT_BACK, SLOT_D, VALVE, VERSION_AS_BEFORE, VERSION_DEBTS,
 };
+use std::fmt::Display;
 use std::ops::Range;
 
 /// The figures of each part.
@@ -25,10 +26,13 @@ pub fn add_to(figures: &mut Figures) {
     add_kept(figures);
     add_second(figures);
     add_later(figures);
+    add_carried_along(figures);
     add_worked_off(figures);
     add_ended(figures);
     add_told_apart(figures);
-    add_carried(figures);
+    add_told_by_answers(figures);
+    add_differs(figures);
+    add_again(figures);
 }
 
 /// The sections on the script, and on what changes of the rules moved.
@@ -185,44 +189,44 @@ fn add_later(figures: &mut Figures) {
     figures.block("a later return", aligned(&[numbers, owners, before, today, owes], 0));
 }
 
-/// How a debt is worked off: not by the cycle alone, and by a slot that comes sooner.
-fn add_worked_off(figures: &mut Figures) {
+/// How a debt is worked off: the cycle alone carries it along.
+fn add_carried_along(figures: &mut Figures) {
     let request = request_b(SLOT_BACK, 0);
     let back = left_at(SLOT_D).after(&request);
     figures.phrase(SCRIPT, format!("each takes {CYCLE} off"));
-    let own = back.own_slots(VALVE, SLOT_BACK..SLOT_BACK + 4);
     let period = u64::from(asks(&back, &request).period);
     let over = SLOT_BACK..SLOT_BACK + period;
+    let own = list(back.own_slots(VALVE, SLOT_BACK..SLOT_BACK + 2 * period));
     let entitled = back.entitlement(VALVE, over.clone());
     let gets = CYCLE as i64 * back.supply(VALVE, over.clone());
-    let has = format!("From slot {SLOT_BACK} on it has slots {} and on", list(own));
+    let has = format!("From slot {SLOT_BACK} on it has slots {own} and on");
     let even = format!("over {period} slots it is entitled to {entitled} and gets {gets}");
-    let debt =
-        list(in_turn([over.start, over.end].map(|slot| back.shortfall(VALVE, slot)).into_iter()));
+    let debt = [over.start, over.end].map(|slot| back.shortfall(VALVE, slot));
+    let debt = list(in_turn(debt.into_iter()));
     figures.phrase(SCRIPT, format!("{has}: {even}, and the cycle alone carries its {debt} along"));
+}
+
+/// How a debt is worked off: by a slot that comes sooner.
+fn add_worked_off(figures: &mut Figures) {
     let (out, d) = (SLOT_D + 1, request_d(SLOT_BACK, 0));
     let left = left_at(out);
     let (owed, share) = (left.shortfall(VALVE, SLOT_BACK), asks(&left, &d));
     let had = format!("Had it left at slot {out}, behind its slot {SLOT_D}");
-    figures.phrase(
-        SCRIPT,
-        format!("{had}, it would be owed {owed}, which is below {}", limit_of(share)),
-    );
+    let limit = limit_of(share);
+    figures.phrase(SCRIPT, format!("{had}, it would be owed {owed}, which is below {limit}"));
     let sooner = left.after(&d);
+    let accepted = format!("R {} is accepted at slot {SLOT_BACK}", share.bound);
     let offsets = list(offsets(&sooner.present()));
-    figures.phrase(
-        SCRIPT,
-        format!("R {} is accepted at slot {SLOT_BACK}, with offsets {offsets}", share.bound),
-    );
-    let (left, weight) = (room(owed, share), share.weight());
+    figures.phrase(SCRIPT, format!("{accepted}, with offsets {offsets}"));
+    let (room, weight) = (room(owed, share), share.weight());
     let gone = sooner.shortfall(VALVE, SLOT_BACK + 1);
     let sum = format!("{owed} + {weight} - {CYCLE} = {gone}");
-    figures
-        .phrase(SCRIPT, format!("Its room is {left}, so it has slot {SLOT_BACK} at once: {sum}"));
+    let at_once = format!("so it has slot {SLOT_BACK} at once: {sum}");
+    figures.phrase(SCRIPT, format!("Its room is {room}, {at_once}"));
     let shown = SLOT_BACK..SLOT_BACK + 5;
     let [numbers, owners] = head_rows(&sooner, shown.clone());
     let row = shortfall_row("valve, shortfall", &sooner, VALVE, shown);
-    let ends = [String::new(), String::new(), format!("   below {}", limit_of(share))];
+    let ends = [String::new(), String::new(), format!("   below {limit}")];
     figures.block("a debt worked off", with_ends(&aligned(&[numbers, owners, row], 0), &ends));
 }
 
@@ -244,88 +248,84 @@ fn add_ended(figures: &mut Figures) {
     figures.phrase(EARLIER, format!("| place with {SHORTFALL_TOO_LARGE} | {never}"));
 }
 
-/// "Earlier meanings": how the meaning of what is archived is told.
+/// What a figure was in the last version before CR 5, and what it is in the first one since then.
+fn by_versions(was: impl Display, is: impl Display) -> String {
+    format!("version {}: {was}; version {VERSION_DEBTS}: {is}", VERSION_DEBTS - 1)
+}
+
+/// "Earlier meanings": how the meaning of a figure or an image is told.
 fn add_told_apart(figures: &mut Figures) {
     let (last, first) = (VERSION_DEBTS - 1, VERSION_DEBTS);
-    let d = request_d(SLOT_D, 0);
-    let old = before_cr_5(&d);
+    let old = before_cr_5(&request_d(SLOT_D, 0));
     let back = left_at(SLOT_D).after(&request_b(SLOT_D, 0));
-    let versions =
-        |was: String, is: String| format!("version {last}: {was}; version {first}: {is}");
-    let logged = format!("logged beside it: up to {last} the earlier one, from {first} on today's");
-    figures.phrase(EARLIER, logged);
-    let stands = versions(told(&old, SLOT_D), told(&back, SLOT_D));
+    let which = format!("beside it: up to {last} the earlier one, from {first} on today's");
+    figures.phrase(EARLIER, format!("logged {which}"));
+    let stands = by_versions(told(&old, SLOT_D), told(&back, SLOT_D));
     let stands = format!("the script, id {VALVE}, slot {SLOT_D}: {stands}");
     figures.cell(EARLIER, "a figure of the column, a standing", stands);
-    let stored = format!("stored beside it: up to {last} the earlier one, from {first} on today's");
-    figures.phrase(EARLIER, stored);
+    figures.phrase(EARLIER, format!("stored {which}"));
     figures.phrase(EARLIER, "a kept shortfall other than 0 for an id whose period is 0");
     let left = left_at(SLOT_D).present();
     let [was, is] = [forgetful(&left), left].map(|timetable| owed_bytes(&timetable));
-    let owes = format!("id {VALVE} left out at slot {SLOT_D}, {}", versions(was, is));
-    figures.cell(EARLIER, "an image", owes);
-    let behind = SHORTFALL_TOO_LARGE;
-    figures.phrase(
-        EARLIER,
-        format!("| an {behind} whose place was not listed before | version {first} or later"),
-    );
-    let left = after_before_cr_5(&run_b(), &request_left(SLOT_D, 0));
+    let owed = format!("id {VALVE} left out at slot {SLOT_D}, {}", by_versions(was, is));
+    figures.cell(EARLIER, "an image", owed);
+}
+
+/// "Earlier meanings": what an answer tells of the meaning, and what the column does by itself.
+fn add_told_by_answers(figures: &mut Figures) {
+    let (first, behind) = (VERSION_DEBTS, SHORTFALL_TOO_LARGE);
+    let (d, leaves) = (request_d(SLOT_D, 0), request_left(SLOT_D, 0));
+    let row = format!("an {behind} whose place was not listed before");
+    figures.phrase(EARLIER, format!("| {row} | version {first} or later"));
     let at = |run: &Run| {
         let Outcome { number, place, .. } = outcome(run, &d);
         format!("{number} at {place}")
     };
-    let second = versions(at(&left), at(&left_at(SLOT_D)));
-    let row = format!("an {behind} whose place was not listed before");
+    let second = by_versions(at(&after_before_cr_5(&run_b(), &leaves)), at(&left_at(SLOT_D)));
     figures.cell(EARLIER, row, format!("the script's second request: {second}"));
-    let answer = code(&answered(&run_b(), &request_left(SLOT_D, 0)).1);
+    let answer = code(&answered(&run_b(), &leaves).1);
     let row = "a request, an answer record, any other line of the program";
     figures.cell(EARLIER, row, format!("the script's first answer: {answer} in all versions"));
-    let none = told(&old, SLOT_D);
+    let none = told(&before_cr_5(&d), SLOT_D);
     figures.phrase(EARLIER, format!("its request slot says {none} by the earlier meaning"));
     figures.phrase(EARLIER, format!("Where that is {none} too"));
 }
 
-/// The bytes of an image that hold what the valve owes at the base.
+/// The bytes of an image that hold what the valve is owed at the base.
 fn owed_bytes(timetable: &Timetable) -> String {
-    let (image, none) = (image_of(timetable), image_of(&Timetable::empty()));
     let mut other = *timetable;
     other.entries[usize::from(VALVE)].shortfall ^= u16::MAX;
-    let at = (0..image.len()).find(|&at| image[at] != image_of(&other)[at]).unwrap_or(none.len());
-    let size = size_of_val(&timetable.entries[0].shortfall);
-    format!("bytes {at} to {}: {}", at + size - 1, code(&image[at..at + size]))
+    let (image, other) = (image_of(timetable), image_of(&other));
+    let differ: Vec<usize> = (0..image.len()).filter(|&at| image[at] != other[at]).collect();
+    let (at, last) = (differ[0], differ[differ.len() - 1]);
+    format!("bytes {at} to {last}: {}", code(&image[at..=last]))
 }
 
-/// "Earlier meanings": where the two differ, how an old figure becomes one of today, and old images.
-fn add_carried(figures: &mut Figures) {
-    let (last, first) = (VERSION_DEBTS - 1, VERSION_DEBTS);
+/// "Earlier meanings": where the two differ.
+fn add_differs(figures: &mut Figures) {
     figures.phrase(EARLIER, "that left with a shortfall above 0 and returned");
     figures.phrase(EARLIER, "or left with 0 each time");
     figures.phrase(EARLIER, "at the latest where today's is 0");
-    let (old, back) =
-        (before_cr_5(&request_d(SLOT_D, 0)), left_at(SLOT_D).after(&request_b(SLOT_D, 0)));
-    let shown = SLOT_D..LAST_SHOWN + 1;
-    let more = shown.map(|slot| {
+    let old = before_cr_5(&request_d(SLOT_D, 0));
+    let more = (SLOT_D..LAST_SHOWN + 1).map(|slot| {
         old.shortfall(VALVE, slot) - i64::from(standing_query(&old.present(), VALVE, slot).1)
     });
-    let more = list(in_turn(more));
-    let left = back.shortfall(VALVE, SLOT_D);
-    figures.phrase(
-        EARLIER,
-        format!("In the script it left with {left}, and the figures differ by {more} in each slot"),
-    );
+    let (left, more) = (left_at(SLOT_D).shortfall(VALVE, SLOT_D), list(in_turn(more)));
+    let differ = format!("the figures differ by {more} in each slot");
+    figures.phrase(EARLIER, format!("In the script it left with {left}, and {differ}"));
     let behind = outcome(&left_at(SLOT_D), &request_d(SLOT_D, 0)).number;
-    let refused = format!("version {last} accepted what is refused {behind} today");
-    figures.phrase(EARLIER, refused);
-    figures.phrase(EARLIER, format!("What versions {VERSION_AS_BEFORE} and {last} gave"));
+    let accepted = format!("version {} accepted", VERSION_DEBTS - 1);
+    figures.phrase(EARLIER, format!("{accepted} what is refused {behind} today"));
+}
+
+/// "Earlier meanings": what is put again, and images of before CR 5.
+fn add_again(figures: &mut Figures) {
+    let (last, first, short) = (VERSION_DEBTS - 1, VERSION_DEBTS, VERSION_AS_BEFORE);
+    figures.phrase(EARLIER, format!("What versions {short} and {last} gave"));
     figures.phrase(EARLIER, "is set to 0 for each id that is not listed");
-    figures.phrase(
-        EARLIER,
-        format!("(Up to version {} a short field asked R 1", VERSION_AS_BEFORE - 1),
-    );
+    figures.phrase(EARLIER, format!("(Up to version {} a short field asked R 1", short - 1));
     let reads = format!("An image of version {last} is sound for version {first}");
     figures.phrase(EARLIER, format!("{reads}, and says 0 for each id"));
-    let refuses = format!(
-        "One of version {first} that holds a debt is refused {NOT_SOUND} by version {last}"
-    );
-    figures.phrase(EARLIER, refuses);
+    let holds = format!("One of version {first} that holds a debt");
+    figures.phrase(EARLIER, format!("{holds} is refused {NOT_SOUND} by version {last}"));
 }

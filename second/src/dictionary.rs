@@ -21,8 +21,8 @@ use crate::run::Run;
 use crate::screen;
 use crate::slots::{last_offset, room};
 use crate::timetable::{
-    Share, Timetable, CYCLE, DEBT_LIMIT, IDLE, IDS, LARGEST_BOUND, LARGEST_EXPONENT, LAST_SLOT,
-    LONGEST_TRANSITION,
+    Entry, Share, Timetable, CYCLE, DEBT_LIMIT, IDLE, IDS, LARGEST_BOUND, LARGEST_EXPONENT,
+    LAST_SLOT, LONGEST_TRANSITION,
 };
 use crate::untouched;
 use crate::worked::{
@@ -579,16 +579,23 @@ fn add_image(figures: &mut Figures) {
     let of = |id: u8| format!("id {id}, {}", bytes(starts + start * usize::from(id), start));
     let row = "each id's kept shortfall at the request slot";
     figures.cell(section, row, [PUMP_LOOP, DETECTOR, VALVE].map(of).join("; "));
-    let left = image_of(&left_at(SLOT_D).present());
-    let bytes = |from: usize, size: usize| {
-        format!("bytes {from} to {} are {}", from + size - 1, code(&left[from..from + size]))
+    add_image_left(figures, section, [entries, size], [starts, start]);
+}
+
+/// "The image in C": the bytes of an id that left, which begin so many bytes behind the first id's.
+fn add_image_left(figures: &mut Figures, section: &str, entries: [usize; 2], starts: [usize; 2]) {
+    let (run, valve) = (left_at(SLOT_D), usize::from(VALVE));
+    let image = image_of(&run.present());
+    let bytes = |[first, size]: [usize; 2]| {
+        let from = first + size * valve;
+        format!("bytes {from} to {} are {}", from + size - 1, code(&image[from..from + size]))
     };
-    let valve = usize::from(VALVE);
-    let (entry, owed) = (bytes(entries + size * valve, size), bytes(starts + start * valve, start));
-    figures.phrase(section, format!("period, offset and R are {}", left[entries + size * valve]));
+    let Entry { period, offset, bound, .. } = run.present().entries[valve];
+    let none = list(in_turn([period, u16::from(offset), u16::from(bound)].into_iter()));
+    figures.phrase(section, format!("period, offset and R are {none}"));
     let out = format!("After B, with id {VALVE} left out at slot {SLOT_D}");
-    figures.phrase(section, format!("{out}, {entry}, and {owed}"));
-    let refused = standing_query(&left_at(SLOT_D).present(), VALVE, SLOT_D).0;
+    figures.phrase(section, format!("{out}, {}, and {}", bytes(entries), bytes(starts)));
+    let refused = standing_query(&run.present(), VALVE, SLOT_D).0;
     figures.phrase(section, format!("The standing query says {refused} of such an id"));
 }
 
