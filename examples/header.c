@@ -222,7 +222,8 @@ static void show_short(void)
     memcpy(image, b, TARNFLAW_IMAGE);
 }
 
-/* Lets id 2 leave case B's image, which is in force again afterwards, with a whole slot that it is owed, and return in the same slot and later. */
+/* Lets id 2 leave case B's image, which is in force again afterwards, with a whole slot that it is owed, and return in the same slot and later; last from
+ * an image as version 5 left it, in which it is owed nothing. */
 static void show_debt(void)
 {
     uint8_t b[TARNFLAW_IMAGE], left[TARNFLAW_IMAGE];
@@ -238,6 +239,10 @@ static void show_debt(void)
     standing(2, 8, TARNFLAW_IMAGE);
     CHANGE_OF("id 2 returns at slot 20 with R 2", left, returns_20);
     standing(2, 20, TARNFLAW_IMAGE);
+    memset(left + 97, 0, 2);
+    memset(left + 277, 0, 2);
+    CHANGE_OF("id 2 returns at slot 8 with R 1, as in version 5", left, case_d);
+    standing(2, 8, TARNFLAW_IMAGE);
     memcpy(image, b, TARNFLAW_IMAGE);
 }
 

@@ -129,6 +129,8 @@ fn worked_script_before_cr_5() {
         assert_eq!(told, [0, 128, 0]);
         let owed = [slot, slot + 1, slot + 2].map(|at| old.shortfall(2, at));
         assert_eq!(owed, [256, 384, 256]);
+        let larger = after_before_cr_5(&left, &request_b(slot, 0));
+        assert!((0..300).all(|at| larger.owner(at) == today.owner(at)));
     }
 }
 
