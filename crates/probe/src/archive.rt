@@ -1,13 +1,13 @@
 // The kinds of probe that have no image: reading an answer, writing a request, and a field of an answer.
-use crate::printing::print_answer;
-use crate::printing::print_area;
-use crate::printing::print_number;
-use crate::printing::print_two;
-use crate::reading::after;
-use crate::reading::byte_at;
-use crate::reading::fill_area;
-use crate::reading::length_at;
-use crate::reading::number_at;
+use parts::printing::print_answer;
+use parts::printing::print_area;
+use parts::printing::print_number;
+use parts::printing::print_two;
+use parts::reading::after;
+use parts::reading::byte_at;
+use parts::reading::fill_area;
+use parts::reading::length_at;
+use parts::reading::number_at;
 ghost use lib.ListN.{length};
 ghost use Prim.Native.Nat.{_≤_};
 

@@ -1,6 +1,7 @@
 // A test tool: any timetable, record, request and area through the library's C interface, and everything that comes back printed. Its protocol is docs/PROBE.md.
 use frames::HEADER;
 use frames::stream;
+use parts::printing::print_byte;
 ghost use lib.ListN.{length};
 ghost use mathlib.Core.Path.{_≡_};
 ghost use Prim.Native.Nat.{_≤_};
@@ -8,9 +9,7 @@ ghost use Rattle.frames.specs.Coded.{LINE-ROOM};
 ghost use Rattle.probe.specs.Probes.{Probes};
 
 mod archive; // archive.rt: the kinds of probe that have no image
-mod printing; // printing.rt: the parts of a line
 mod probing; // probing.rt: the kinds of probe, and those that have an image
-mod reading; // reading.rt: the parts of a probe
 
 fn main() {
     let mut input = io::large_buffer();
@@ -42,5 +41,5 @@ fn answered(content: &[u8], put: usize, out: &mut [u8], image: &mut [u8], area: 
     ensures { λ r. ⌜ r ≤ length (now (out .entry)) ⌝ }
 {
     let told = probing::line(content, out, put, image, area);
-    printing::print_byte(out, told, b'\n')
+    print_byte(out, told, b'\n')
 }

@@ -1,17 +1,17 @@
 // The kinds of probe: each calls its entry point of the library and prints what came back. Those that have no image are in archive.rt.
 use crate::archive;
-use crate::printing::print_answer;
-use crate::printing::print_area;
-use crate::printing::print_image;
-use crate::printing::print_number;
-use crate::printing::print_text;
-use crate::printing::print_two;
-use crate::reading::after;
-use crate::reading::byte_at;
-use crate::reading::fill_area;
-use crate::reading::length_at;
-use crate::reading::number_at;
-use crate::reading::unpack;
+use parts::printing::print_answer;
+use parts::printing::print_area;
+use parts::printing::print_image;
+use parts::printing::print_number;
+use parts::printing::print_text;
+use parts::printing::print_two;
+use parts::reading::after;
+use parts::reading::byte_at;
+use parts::reading::fill_area;
+use parts::reading::length_at;
+use parts::reading::number_at;
+use parts::reading::unpack;
 ghost use lib.ListN.{length};
 ghost use Prim.Native.Nat.{_≤_};
 

@@ -1,10 +1,10 @@
--- `probe::printing::touched` is safe and ends. The invariant: the place lies inside the area. The measure is the place.
+-- `parts::printing::touched` is safe and ends. The invariant: the place lies inside the area. The measure is the place.
 -- Assumes nothing.
 use borrow.Author.Needs.{needs}
 use lib.ListN.{length}
 use Prim.Native.Nat.{_≤_}
-use Rattle.probe.proofs.printing.touched.Statement.{statement}
-use Rattle.probe.proofs.printing.touched.Tie as tie
+use Rattle.parts.proofs.printing.touched.Statement.{statement}
+use Rattle.parts.proofs.printing.touched.Tie as tie
 
 abbrev Inv-loop : tie.InvT-loop
 Inv-loop area content pattern n₀ n = n ≤ length area

@@ -1,10 +1,10 @@
--- `probe::printing::run_at` is safe and ends. The invariant: the run ends inside the image. The measure is what it may still grow by.
+-- `parts::printing::run_at` is safe and ends. The invariant: the run ends inside the image. The measure is what it may still grow by.
 -- Assumes nothing.
 use borrow.Author.Needs.{needs}
 use lib.ListN.{length}
 use Prim.Native.Nat.{_+_, _-_, _≤_}
-use Rattle.probe.proofs.printing.run_at.Statement.{statement}
-use Rattle.probe.proofs.printing.run_at.Tie as tie
+use Rattle.parts.proofs.printing.run_at.Statement.{statement}
+use Rattle.parts.proofs.printing.run_at.Tie as tie
 
 abbrev Inv-loop : tie.InvT-loop
 Inv-loop image from most n₀ n = (1 ≤ n) × (from + n ≤ length image) × (most + from ≤ length image)

@@ -1,9 +1,9 @@
--- `probe::reading::number_at` is safe and ends. The invariant: no more bytes are left than there were. The measure is the number of bytes that are left.
+-- `parts::reading::number_at` is safe and ends. The invariant: no more bytes are left than there were. The measure is the number of bytes that are left.
 -- Assumes nothing.
 use borrow.Author.Needs.{needs}
 use Prim.Native.Nat.{_≤_}
-use Rattle.probe.proofs.reading.number_at.Statement.{statement}
-use Rattle.probe.proofs.reading.number_at.Tie as tie
+use Rattle.parts.proofs.reading.number_at.Statement.{statement}
+use Rattle.parts.proofs.reading.number_at.Tie as tie
 
 abbrev Inv-loop : tie.InvT-loop
 Inv-loop content from count n₀ at₀ left₀ n at left = left ≤ count

@@ -1,11 +1,11 @@
--- `probe::printing::print_all` is safe and ends. The invariant: the output ends inside its buffer, which keeps its length, and the place inside the bytes. The measure is what is left of them.
+-- `parts::printing::print_all` is safe and ends. The invariant: the output ends inside its buffer, which keeps its length, and the place inside the bytes. The measure is what is left of them.
 -- Assumes nothing.
 use borrow.Author.Needs.{needs}
 use lib.ListN.{length}
 use mathlib.Core.Path.{_≡_}
 use Prim.Native.Nat.{_-_, _≤_}
-use Rattle.probe.proofs.printing.print_all.Statement.{statement}
-use Rattle.probe.proofs.printing.print_all.Tie as tie
+use Rattle.parts.proofs.printing.print_all.Statement.{statement}
+use Rattle.parts.proofs.printing.print_all.Tie as tie
 
 abbrev Inv-loop : tie.InvT-loop
 Inv-loop out₀ put bytes form at₀ i₀ out at i = (at ≤ length out) × (length out ≡ length out₀) × (i ≤ length bytes)

@@ -1,26 +1,26 @@
--- `probe::reading::unpack` is safe and ends. The invariant: the image keeps its length. The measure is what is left of it.
+-- `parts::reading::fill_area` is safe and ends. The invariant: the area keeps its length. The measure is what is left of it.
 -- Assumes nothing.
 use borrow.Author.Needs.{needs}
 use lib.ListN.{length}
 use mathlib.Core.Path.{_≡_}
 use Prim.Native.Nat.{_-_}
-use Rattle.probe.proofs.reading.unpack.Statement.{statement}
-use Rattle.probe.proofs.reading.unpack.Tie as tie
+use Rattle.parts.proofs.reading.fill_area.Statement.{statement}
+use Rattle.parts.proofs.reading.fill_area.Tie as tie
 
 abbrev Inv-loop : tie.InvT-loop
-Inv-loop content from image₀ p₀ i₀ image p i = length image ≡ length image₀
+Inv-loop content from area₀ i₀ area i = length area ≡ length area₀
 
 abbrev μ-loop : tie.MeasureT-loop
-μ-loop content from image₀ p₀ i₀ image p i = length image₀ - i
+μ-loop content from area₀ i₀ area i = length area₀ - i
 
 loop-holds : tie.Need-loop-holds Inv-loop μ-loop
 loop-holds c = search needs
 
-next-requires : tie.Need-next-requires Inv-loop μ-loop
-next-requires c κs = search needs
+pattern-at-requires : tie.Need-pattern-at-requires Inv-loop μ-loop
+pattern-at-requires c κs = search needs
 
-slice-write-image : tie.Need-slice-write-image Inv-loop μ-loop
-slice-write-image c = search needs
+slice-write-area : tie.Need-slice-write-area Inv-loop μ-loop
+slice-write-area c = search needs
 
 add-i : tie.Need-add-i Inv-loop μ-loop
 add-i c = search needs
@@ -37,15 +37,15 @@ same-length c = search needs
 returns : tie.Need-returns Inv-loop μ-loop
 returns c = search needs
 
-pub unpack-spec : {M : Type 1} → statement M
-unpack-spec =
+pub fill-area-spec : {M : Type 1} → statement M
+fill-area-spec =
     tie.close
     (tie.spec
     Inv-loop
     μ-loop
     loop-holds
-    next-requires
-    slice-write-image
+    pattern-at-requires
+    slice-write-area
     add-i
     loop-less
     loop-again
