@@ -33,7 +33,7 @@ use Rattle.timetable.proofs.Since.{shortfall-cycle}
 use Rattle.timetable.proofs.Sound.{Sound, sound-from}
 use Rattle.timetable.specs.declared.Entry.{Entry}
 use Rattle.timetable.specs.declared.Timetable.{Timetable}
-use Rattle.timetable.specs.Timetable.{entryOf, isListed, lists, shortfallAfter, shortfallAt}
+use Rattle.timetable.specs.Timetable.{entryOf, isListed, lists, shortfallAt}
 use Rattle.transition.proofs.RuleThreeLaws.{same-entries}
 use Rattle.transition.specs.declared.Plan.{Plan}
 use Rattle.transition.specs.Transition.{searchFrom}
