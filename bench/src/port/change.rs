@@ -29,8 +29,10 @@ pub fn change_timetable(timetable: &mut Timetable, record: &[u8], area: &mut [u8
         Ok(request) => request,
         Err(refusal) => return Outcome::refused(refusal, 0),
     };
+    let elapsed = request.slot - timetable.base;
+    let starts = timetable.entries.map(|entry| entry.shortfall_after(elapsed));
     let mut room = [Listed::default(); IDS];
-    let listed = match entering(timetable, &request, &mut room) {
+    let listed = match entering(timetable, &request, &starts, &mut room) {
         Ok(listed) => listed,
         Err(refusal) => return Outcome::refused(refusal, 0),
     };
@@ -39,7 +41,7 @@ pub fn change_timetable(timetable: &mut Timetable, record: &[u8], area: &mut [u8
         Ok(length) => length,
         Err(refusal) => return Outcome::refused(refusal, searched.tries),
     };
-    accept(timetable, request.slot, length, listed, &searched);
+    accept(timetable, request.slot, length, starts, listed, &searched);
     let owners = &timetable.owners[..usize::from(length)];
     let written = write_answer(area, owners, &timetable.entries);
     Outcome { number: ACCEPTED, place: 0, tries: searched.tries, written }
@@ -64,9 +66,9 @@ fn admitted(timetable: &Timetable, record: &[u8], area: usize) -> Result<Request
 fn entering<'a>(
     timetable: &Timetable,
     request: &Request,
+    starts: &[u16; IDS],
     room: &'a mut [Listed; IDS],
 ) -> Result<&'a mut [Listed], Refusal> {
-    let elapsed = request.slot - timetable.base;
     let mut count = 0;
     let mut weights = 0;
     let mut behind = None;
@@ -79,13 +81,12 @@ fn entering<'a>(
         if weights > WHOLE {
             return Err(Refusal::at(OVERFULL, id));
         }
-        let start = if old.is_listed() { old.shortfall_after(elapsed) } else { 0 };
         let bound = if ask.bound == 0 { old.bound_before() } else { ask.bound };
-        if start >= WHOLE * u16::from(bound) {
+        if starts[id] >= WHOLE * u16::from(bound) {
             behind = behind.or(Some(id));
         }
-        let (id, period) = (id as u8, ask.period);
-        room[count] = Listed { id, bound, offset: 0, period, weight, start, shortfall: start };
+        let (period, shortfall) = (ask.period, starts[id]);
+        room[count] = Listed { id: id as u8, bound, offset: 0, period, weight, shortfall };
         count += 1;
     }
     match behind {
@@ -94,16 +95,23 @@ fn entering<'a>(
     }
 }
 
-/// Puts the new timetable in the place of the old one.
-fn accept(timetable: &mut Timetable, slot: u64, length: u8, listed: &[Listed], found: &Searched) {
+/// Puts the new timetable in the place of the old one. An id that it does not list keeps its
+/// shortfall.
+fn accept(
+    timetable: &mut Timetable,
+    slot: u64,
+    length: u8,
+    starts: [u16; IDS],
+    listed: &[Listed],
+    found: &Searched,
+) {
     timetable.request = slot;
     timetable.length = length;
     timetable.owners = found.owners;
     timetable.base = slot + u64::from(length);
-    timetable.entries = [Entry::default(); IDS];
-    timetable.starts = [0; IDS];
+    timetable.entries = starts.map(Entry::absent);
+    timetable.starts = starts;
     for partition in listed {
-        timetable.starts[usize::from(partition.id)] = partition.start;
         timetable.entries[usize::from(partition.id)] = Entry {
             period: partition.period,
             offset: partition.offset,

@@ -2,7 +2,7 @@
 
 use crate::timetable::{LARGEST_BOUND, WHOLE};
 
-/// One id's entry; a period of 0 says that the id is not listed.
+/// One id's entry; a period of 0 says that the id is not listed, and then it has a shortfall at most.
 #[derive(Clone, Copy, Debug, Default, PartialEq, Eq)]
 pub struct Entry {
     pub period: u16,
@@ -15,6 +15,11 @@ impl Entry {
     /// Whether the id is listed.
     pub fn is_listed(&self) -> bool {
         self.period != 0
+    }
+
+    /// The entry of an id that is not listed, with its shortfall.
+    pub fn absent(shortfall: u16) -> Entry {
+        Entry { shortfall, ..Entry::default() }
     }
 
     /// The R that a short field asks: the one it is listed with, or 1.
@@ -31,10 +36,11 @@ impl Entry {
         WHOLE / self.period
     }
 
-    /// In range where listed, all zero where not.
+    /// In range where listed; where not, all zero but for a shortfall below 256 x the largest R.
     pub fn is_well_formed(&self) -> bool {
         if !self.is_listed() {
-            return *self == Entry::default();
+            let limit = WHOLE * u16::from(LARGEST_BOUND);
+            return self.offset == 0 && self.bound == 0 && self.shortfall < limit;
         }
         self.period.is_power_of_two()
             && self.period <= WHOLE
@@ -54,8 +60,12 @@ impl Entry {
         self.is_listed() && n & (u64::from(self.period) - 1) == u64::from(self.offset)
     }
 
-    /// The shortfall n slots after the base: after the first own slot each period repeats.
+    /// The shortfall n slots after the base: it stays where the id is not listed, and else each
+    /// period repeats after the first own slot.
     pub fn shortfall_after(&self, n: u64) -> u16 {
+        if !self.is_listed() {
+            return self.shortfall;
+        }
         let weight = self.weight();
         let offset = u64::from(self.offset);
         if n <= offset {

@@ -54,7 +54,7 @@ impl Timetable {
             && self.owners[..length].iter().all(|&owner| self.lists(owner))
             && self.owners[length..].iter().all(|&owner| owner == 0)
             && self.entries.iter().all(Entry::is_well_formed)
-            && self.starts_keep_bound()
+            && self.starts_fit()
             && self.walk_arrives()
             && self.shares_no_slot()
     }
@@ -64,10 +64,13 @@ impl Timetable {
         self.entries.get(usize::from(id)).is_some_and(Entry::is_listed)
     }
 
-    /// Whether each start is below 256 R, or 0 where the id is not listed and its R is 0.
-    fn starts_keep_bound(&self) -> bool {
+    /// Whether each start is below 256 R, or where the id is not listed the shortfall at the base.
+    fn starts_fit(&self) -> bool {
         let mut starts = self.entries.iter().zip(self.starts);
-        starts.all(|(entry, start)| start < WHOLE * u16::from(entry.bound) || start == 0)
+        starts.all(|(entry, start)| match entry.is_listed() {
+            true => start < WHOLE * u16::from(entry.bound),
+            false => start == entry.shortfall,
+        })
     }
 
     /// Whether the transition leads from the starts to the shortfalls at the base. For each id stands
