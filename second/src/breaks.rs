@@ -2,12 +2,12 @@
 //! last value that is still sound is taken instead.
 
 use crate::built::{
-    alone, leave_out_transition, led_to, lengthen, limit, listed_ids, match_base, settle,
-    some_listed, unlisted_ids,
+    alone, leave_out_transition, led_to, lengthen, limit, listed_ids, match_base, owe, settle,
+    some_listed, some_unlisted, unlisted_ids,
 };
 use crate::random::Random;
 use crate::timetable::{
-    Entry, Timetable, CYCLE, IDLE, IDS, LARGEST_BOUND, LARGEST_EXPONENT, LAST_SLOT,
+    Entry, Timetable, CYCLE, DEBT_LIMIT, IDLE, IDS, LARGEST_BOUND, LARGEST_EXPONENT, LAST_SLOT,
     LONGEST_TRANSITION,
 };
 use crate::walks;
@@ -29,13 +29,14 @@ pub enum Clause {
     UnusedOwner,
     Start,
     UnlistedStart,
+    Debt,
     OtherStart,
     OtherShortfall,
     OtherOwner,
 }
 
 /// Every clause with its name.
-pub const CLAUSES: [(Clause, &str); 17] = [
+pub const CLAUSES: [(Clause, &str); 18] = [
     (Clause::RequestSlot, "request slot"),
     (Clause::Length, "length"),
     (Clause::Base, "base"),
@@ -50,6 +51,7 @@ pub const CLAUSES: [(Clause, &str); 17] = [
     (Clause::UnusedOwner, "unused owner"),
     (Clause::Start, "start"),
     (Clause::UnlistedStart, "start of an unlisted id"),
+    (Clause::Debt, "debt of an unlisted id"),
     (Clause::OtherStart, "walk, another start"),
     (Clause::OtherShortfall, "walk, another shortfall"),
     (Clause::OtherOwner, "walk, another owner"),
@@ -73,6 +75,7 @@ pub fn broken(random: &mut Random, clause: Clause, timetable: &Timetable) -> Tim
         Clause::UnusedOwner => unused_owner(random, &mut edited),
         Clause::Start => walks::start(random, &mut edited),
         Clause::UnlistedStart => walks::unlisted_start(random, &mut edited),
+        Clause::Debt => debt(random, &mut edited),
         Clause::OtherStart => walks::other_start(random, &mut edited),
         Clause::OtherShortfall => walks::other_shortfall(random, &mut edited),
         Clause::OtherOwner => walks::other_owner(random, &mut edited),
@@ -287,7 +290,7 @@ fn put_beside(
     settle(timetable);
 }
 
-/// An unlisted entry has an offset, a bound or a shortfall, or a listed one loses its period.
+/// An unlisted entry has an offset or a bound, or a listed one loses its period.
 fn unlisted(random: &mut Random, timetable: &mut Timetable) {
     let Some(id) = random.pick(&unlisted_ids(timetable)).filter(|_| random.chance(5, 6)) else {
         let id = some_listed(random, timetable);
@@ -296,9 +299,20 @@ fn unlisted(random: &mut Random, timetable: &mut Timetable) {
     };
     let far = random.between(1, 255) as u8;
     let entry = &mut timetable.entries[id];
-    match random.below(3) {
+    match random.below(2) {
         0 => entry.offset = random.pick(&[1, far]).unwrap_or(1),
-        1 => entry.bound = random.pick(&[1, far]).unwrap_or(1),
-        _ => entry.shortfall = random.pick(&[1, u16::from(far), 256, u16::MAX]).unwrap_or(1),
+        _ => entry.bound = random.pick(&[1, LARGEST_BOUND, far]).unwrap_or(1),
     }
+}
+
+/// An unlisted id owes exactly 2,048 at the request slot and at the base, one less, or more.
+fn debt(random: &mut Random, timetable: &mut Timetable) {
+    let id = some_unlisted(random, timetable);
+    let debt = match random.below(8) {
+        0..=3 => DEBT_LIMIT,
+        4..=5 => DEBT_LIMIT - 1,
+        6 => DEBT_LIMIT + random.between(1, 300) as u16,
+        _ => random.pick(&[DEBT_LIMIT + 256, 4096, 1 << 15, u16::MAX]).unwrap_or(DEBT_LIMIT),
+    };
+    owe(timetable, id, debt);
 }

@@ -4,8 +4,8 @@
 use crate::random::Random;
 use crate::slots::{cycle_owners, next_shortfall, own_slots, pass_slot};
 use crate::timetable::{
-    Entry, Share, Timetable, CYCLE, IDLE, IDS, LARGEST_BOUND, LARGEST_EXPONENT, LAST_SLOT,
-    LONGEST_TRANSITION,
+    Entry, Share, Timetable, CYCLE, DEBT_LIMIT, IDLE, IDS, LARGEST_BOUND, LARGEST_EXPONENT,
+    LAST_SLOT, LONGEST_TRANSITION,
 };
 
 /// A sound timetable that no history need reach: any offsets, transition owners and starts.
@@ -17,6 +17,7 @@ pub fn built(random: &mut Random) -> Timetable {
     let lengths = [0, 1, LONGEST_TRANSITION as u8, length];
     let length = random.pick(&lengths).filter(|_| !listed_ids(&timetable).is_empty());
     any_transition(random, &mut timetable, length.unwrap_or(0));
+    any_debts(random, &mut timetable);
     any_request_slot(random, &mut timetable);
     timetable
 }
@@ -30,8 +31,27 @@ pub fn built_with_transition(random: &mut Random) -> Timetable {
     let longest = LONGEST_TRANSITION as u64;
     let length = if random.chance(15, 16) { longest } else { random.between(1, longest) };
     any_transition(random, &mut timetable, length as u8);
+    any_debts(random, &mut timetable);
     any_request_slot(random, &mut timetable);
     timetable
+}
+
+/// Some ids that are not listed owe something, now and then as much as there is.
+fn any_debts(random: &mut Random, timetable: &mut Timetable) {
+    let part = random.pick(&[0, 1, 1, 4]).unwrap_or(0);
+    for id in unlisted_ids(timetable) {
+        if random.chance(part, 8) {
+            let any = random.below(u64::from(DEBT_LIMIT)) as u16;
+            let debt = random.pick(&[any, any, any, 1, 255, 256, DEBT_LIMIT - 1]).unwrap_or(any);
+            owe(timetable, id, debt);
+        }
+    }
+}
+
+/// An id that is not listed owes so much, at the request slot and at the base.
+pub fn owe(timetable: &mut Timetable, id: usize, debt: u16) {
+    timetable.entries[id] = Entry { shortfall: debt, ..Entry::default() };
+    timetable.starts[id] = debt;
 }
 
 /// The timetable is put to a request slot at 0, near 2^48, anywhere, or below 2,000.
@@ -189,13 +209,11 @@ pub fn match_base(timetable: &mut Timetable) {
     timetable.base = timetable.request_slot.wrapping_add(u64::from(timetable.length));
 }
 
-/// No other partition is listed, and the whole transition is the given one's.
+/// No other partition is listed, each owes what it started with, and the whole transition is the given
+/// one's.
 pub fn alone(timetable: &mut Timetable, id: usize) {
-    for (other, entry) in timetable.entries.iter_mut().enumerate() {
-        if other != id {
-            *entry = Entry::default();
-            timetable.starts[other] = 0;
-        }
+    for other in (0..IDS).filter(|&other| other != id) {
+        owe(timetable, other, timetable.starts[other]);
     }
     let used = usize::from(timetable.length);
     timetable.owners.iter_mut().take(used).for_each(|owner| *owner = id as u8);
@@ -209,6 +227,15 @@ pub fn some_listed(random: &mut Random, timetable: &mut Timetable) -> usize {
         place(random, timetable, period, 0);
     }
     random.pick(&listed_ids(timetable)).unwrap_or(0)
+}
+
+/// An id that is not listed; if all are, no other than one is from now on.
+pub fn some_unlisted(random: &mut Random, timetable: &mut Timetable) -> usize {
+    if unlisted_ids(timetable).is_empty() {
+        let id = some_listed(random, timetable);
+        alone(timetable, id);
+    }
+    random.pick(&unlisted_ids(timetable)).unwrap_or(0)
 }
 
 /// The ids that are listed.

@@ -2,7 +2,7 @@
 
 use crate::breaks::Clause;
 use crate::slots::share_a_slot;
-use crate::timetable::{period_in_range, Entry, Timetable, CYCLE, IDS, LAST_SLOT};
+use crate::timetable::{period_in_range, Entry, Timetable, CYCLE, DEBT_LIMIT, IDS, LAST_SLOT};
 
 /// The clauses that a timetable breaks. One stands for those that are the same of the rules: a shared
 /// slot with equal periods for any shared slot, another start for any walk that misses.
@@ -12,7 +12,7 @@ pub fn broken_clauses(timetable: &Timetable) -> Vec<Clause> {
 }
 
 /// A clause is broken and every other holds. An id that is not listed has weight 0 and no slot, so
-/// with its start alone the walk misses too.
+/// where its start is another than its shortfall the walk misses too.
 pub fn broken_alone(timetable: &Timetable, clause: Clause) -> bool {
     let expected = match clause {
         Clause::DifferentPeriods => vec![Clause::EqualPeriods],
@@ -42,14 +42,16 @@ fn of_entries(timetable: &Timetable) -> Vec<(Clause, bool)> {
     let entries = &timetable.entries;
     let listed =
         |holds: fn(&Entry) -> bool| entries.iter().filter(|entry| entry.listed()).all(holds);
-    let zero = |entry: &Entry| *entry == Entry::default();
+    let absent =
+        |holds: fn(&Entry) -> bool| entries.iter().filter(|entry| !entry.listed()).all(holds);
     vec![
         (Clause::Period, listed(|entry| period_in_range(entry.period))),
         (Clause::Bound, listed(|entry| (1..=8).contains(&entry.bound))),
         (Clause::Offset, listed(|entry| u16::from(entry.offset) < entry.period)),
         (Clause::Shortfall, listed(|entry| before_slice(entry) < too_far(entry))),
         (Clause::EqualPeriods, !share_a_slot(entries)),
-        (Clause::Unlisted, entries.iter().all(|entry| entry.listed() || zero(entry))),
+        (Clause::Unlisted, absent(|entry| (entry.offset, entry.bound) == (0, 0))),
+        (Clause::Debt, absent(|entry| entry.shortfall < DEBT_LIMIT)),
     ]
 }
 
@@ -57,11 +59,11 @@ fn of_entries(timetable: &Timetable) -> Vec<(Clause, bool)> {
 fn of_starts(timetable: &Timetable) -> Vec<(Clause, bool)> {
     let ids = || timetable.entries.iter().zip(timetable.starts);
     let below = |(entry, start)| !Entry::listed(entry) || i64::from(start) < too_far(entry);
-    let zero = |(entry, start)| Entry::listed(entry) || start == 0;
+    let stays = |(entry, start): (&Entry, u16)| entry.listed() || start == entry.shortfall;
     let arrives = |id| reached(timetable, id) == i64::from(timetable.entries[id].shortfall);
     vec![
         (Clause::Start, ids().all(below)),
-        (Clause::UnlistedStart, ids().all(zero)),
+        (Clause::UnlistedStart, ids().all(stays)),
         (Clause::OtherStart, (0..IDS).all(arrives)),
     ]
 }

@@ -4,6 +4,7 @@ use crate::archive::FieldTold;
 use crate::breaks::CLAUSES;
 use crate::change::{change, Outcome, AREA};
 use crate::clauses::broken_alone;
+use crate::debt_counts::DebtCounts;
 use crate::generate::{Generator, Left};
 use crate::numbers::{ACCEPTED, LENGTHS_EXHAUSTED, SLOT_MISSED};
 use crate::probe::{put, read_probe, timetable_of, Probe, Reply};
@@ -64,8 +65,8 @@ impl Wants {
     }
 }
 
-/// The numbers, refusals for want of a schedule, requests put again, lengths and short fields of a
-/// stream.
+/// The numbers, refusals for want of a schedule, requests put again, lengths, short fields and debts of
+/// a stream.
 #[derive(Default)]
 pub struct RequestCounts {
     pub numbers: [u64; NUMBERS],
@@ -73,6 +74,7 @@ pub struct RequestCounts {
     pub again: [u64; AGAIN.len()],
     pub lengths: [u64; LENGTHS.len()],
     pub short: ShortCounts,
+    pub debts: DebtCounts,
 }
 
 impl RequestCounts {
@@ -94,6 +96,7 @@ impl RequestCounts {
                 add(&mut counts.lengths, length_class(outcome.timetable.length));
             }
             counts.short.count(&timetable, &left, &request, &outcome);
+            counts.debts.count(&timetable, &left, &request, &outcome);
             left.follow(&timetable, &outcome.timetable);
             timetable = outcome.timetable;
             before = (request, outcome.number);
@@ -101,8 +104,8 @@ impl RequestCounts {
         counts
     }
 
-    /// The tables: numbers, refusals for want of a schedule, requests put again, lengths, and short
-    /// fields.
+    /// The tables: numbers, refusals for want of a schedule, requests put again, lengths, short fields,
+    /// and debts.
     pub fn tables(&self) -> String {
         let numbers: Vec<String> = (0..NUMBERS).map(|number| number.to_string()).collect();
         let tables = [
@@ -111,6 +114,7 @@ impl RequestCounts {
             class_table("Again with a larger T", &AGAIN, &self.again),
             class_table("Transition length", &LENGTHS, &self.lengths),
             self.short.tables(true),
+            self.debts.tables(true),
         ];
         tables.join("\n")
     }
@@ -164,14 +168,15 @@ impl KindCounts {
     }
 }
 
-/// The kinds, numbers, refusals for want of a schedule, lengths, short fields, standings, area sizes
-/// and timetables of a stream of probes.
+/// The kinds, numbers, refusals for want of a schedule, lengths, short fields, debts, standings, area
+/// sizes and timetables of a stream of probes.
 #[derive(Default)]
 pub struct ProbeCounts {
     pub kinds: KindCounts,
     pub wants: Wants,
     pub lengths: [u64; LENGTHS.len()],
     pub short: ShortCounts,
+    pub debts: DebtCounts,
     pub standings: StandingCounts,
     pub areas: [u64; AREAS.len()],
     pub origins: Vec<OriginCount>,
@@ -215,7 +220,7 @@ impl ProbeCounts {
     }
 
     /// A change is counted by its area, by its acceptance's length or its want of a schedule, and by
-    /// its short fields.
+    /// its short fields and debts.
     fn count_change(&mut self, probe: &Probe, reply: &Reply) {
         let (
             Probe::Change { image, request, .. },
@@ -234,11 +239,13 @@ impl ProbeCounts {
         }
         let outcome = Outcome { number, place, tries, written, timetable };
         self.short.count(&before, &Left::default(), request, &outcome);
+        self.debts.count(&before, &Left::default(), request, &outcome);
     }
 
-    /// An image is counted by how it was made, whether it is sound, and what it breaks.
+    /// An image is counted by how it was made, whether it is sound, what it breaks, and its debts.
     fn count_origin(&mut self, origin: Origin, image: &[u8]) {
         let timetable = timetable_of(image);
+        timetable.iter().for_each(|timetable| self.debts.count_image(timetable));
         let sound = timetable.is_some_and(|timetable| timetable.sound());
         let alone = match (origin, timetable) {
             (Origin::Broken(clause), Some(timetable)) => broken_alone(&timetable, clause),
@@ -251,14 +258,15 @@ impl ProbeCounts {
         }
     }
 
-    /// The tables: numbers by kind, refusals for want of a schedule, lengths, short fields, standings,
-    /// area sizes, and timetables by how they were made.
+    /// The tables: numbers by kind, refusals for want of a schedule, lengths, short fields, debts,
+    /// standings, area sizes, and timetables by how they were made.
     pub fn tables(&self) -> String {
         let tables = [
             self.kinds.table(),
             self.wants.tables(),
             class_table("Transition length", &LENGTHS, &self.lengths),
             self.short.tables(false),
+            self.debts.tables(false),
             self.standings.tables(),
             class_table("Area", &AREAS, &self.areas),
             self.origin_table(),

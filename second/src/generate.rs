@@ -3,6 +3,7 @@
 
 use crate::change::{bound_before, change, listed, Outcome, Request, AREA};
 use crate::damage::damaged;
+use crate::debts::{absent_in_debt, bear, lower, much_is_owed, slot_after_slices};
 use crate::numbers::{ACCEPTED, LENGTHS_EXHAUSTED, SHORTFALL_TOO_LARGE, SLOT_MISSED};
 use crate::queries::standing_query;
 use crate::random::Random;
@@ -11,9 +12,12 @@ use crate::timetable::{
     Entry, Listing, Share, Timetable, CYCLE, IDS, LARGEST_BOUND, LARGEST_EXPONENT, LAST_SLOT,
     LONGEST_TRANSITION,
 };
+use crate::working_off::worked_off;
 
 /// The candidates that are tried for one aim before a block is asked for instead.
-const CANDIDATES: usize = 24;
+const CANDIDATES: usize = 40;
+/// How often what comes before an aim is made anew if it would be refused.
+const PREPARATIONS: usize = 6;
 /// A huge jump takes at most one in so many of the slots left, less in long streams.
 const LEAST_JUMP_PART: u64 = 64;
 /// A stream's last part begins at most so many slots for each of its requests before the highest.
@@ -21,7 +25,8 @@ const END_STEP: u64 = 64;
 
 /// What a request is meant to bring: anything, an acceptance with a length in a range, a slot in a
 /// range that is missed (9), a shortfall too large (8), all lengths up to T in vain (11), or an
-/// acceptance where R 1 in place of each R as before would be a shortfall too large.
+/// acceptance where R 1 in place of each R as before would be a shortfall too large, or would bring
+/// another schedule or none.
 #[derive(Clone, Copy, PartialEq, Eq)]
 enum Aim {
     Any,
@@ -30,12 +35,14 @@ enum Aim {
     Behind,
     Exhausted,
     Kept,
+    Scheduled,
 }
 
-/// The ids that left with R above 1 and did not return so far, each with the slot that it left for.
+/// The ids that left and did not return so far, each with the slot that it left for and the R that it
+/// had.
 #[derive(Clone, Copy, Debug, Default, PartialEq, Eq)]
 pub struct Left {
-    slots: [Option<u64>; IDS],
+    ids: [Option<(u64, u8)>; IDS],
 }
 
 impl Left {
@@ -44,22 +51,27 @@ impl Left {
         for id in 0..IDS {
             let (was, is) = (before.entries[id], after.entries[id]);
             if is.listed() {
-                self.slots[id] = None;
-            } else if was.listed() && was.bound > 1 {
-                self.slots[id] = Some(after.request_slot);
+                self.ids[id] = None;
+            } else if was.listed() {
+                self.ids[id] = Some((after.request_slot, was.bound));
             }
         }
     }
 
-    /// The slot for which an id left with R above 1, if it did not return.
+    /// The slot for which an id left, if it did not return.
     pub fn slot(&self, id: usize) -> Option<u64> {
-        self.slots[id]
+        self.ids[id].map(|(slot, _)| slot)
+    }
+
+    /// The slot for which an id left with R above 1, if it did not return.
+    pub fn slot_with_wide(&self, id: usize) -> Option<u64> {
+        self.ids[id].filter(|&(_, bound)| bound > 1).map(|(slot, _)| slot)
     }
 }
 
 /// A stream of requests, with the timetable that holds after those given so far, the aim that waits
 /// for its block, the request that the desk puts again, the id that was left out just now with the
-/// period that it had, and those that left with R above 1.
+/// period that it had, and those that left.
 pub struct Generator {
     random: Random,
     timetable: Timetable,
@@ -70,6 +82,7 @@ pub struct Generator {
     again: Option<Vec<u8>>,
     out: Option<(usize, u16)>,
     left_with: Left,
+    spell: u64,
 }
 
 impl Generator {
@@ -90,6 +103,7 @@ impl Generator {
             again: None,
             out: None,
             left_with: Left::default(),
+            spell: 0,
         }
     }
 
@@ -99,7 +113,8 @@ impl Generator {
     }
 
     /// One request, damaged or with some aim; the larger T that a desk asks comes first, then an id
-    /// that was left out returns, and then mostly an aim that waits for its block.
+    /// that was left out returns, now and then debts are worked off, and then mostly comes an aim that
+    /// waits for its block.
     fn make(&mut self) -> Vec<u8> {
         if let Some(raised) = self.raised() {
             return raised;
@@ -107,10 +122,19 @@ impl Generator {
         if let Some((id, period)) = self.out.take() {
             return self.back(id, period);
         }
+        if self.spell > 0 {
+            self.spell -= 1;
+            let request = worked_off(&mut self.random, &self.timetable);
+            return self.record(&request);
+        }
+        if much_is_owed(&self.timetable) && self.left > self.last_part && self.random.chance(1, 64)
+        {
+            self.spell = 32;
+        }
         if let Some(aim) = self.pending.filter(|_| self.random.chance(3, 4)) {
             return self.aimed(aim);
         }
-        match self.random.below(112) {
+        match self.random.below(138) {
             0..=26 => {
                 let request = self.any_change();
                 let fields = self.fields(&request);
@@ -120,16 +144,17 @@ impl Generator {
             31..=34 => self.overfull(),
             35..=41 => self.rebuilt(),
             42..=46 => self.aimed(Aim::Any),
-            47..=54 => self.aimed(Aim::Length(1, 1)),
-            55..=67 => self.aimed(Aim::Length(2, 8)),
-            68..=80 => self.aimed(Aim::Length(9, LONGEST_TRANSITION as u8)),
-            81..=88 => self.aimed(Aim::Behind),
-            89..=90 => self.aimed(Aim::Exhausted),
-            91..=94 => self.aimed(Aim::Missed(0, 0)),
-            95..=99 => self.aimed(Aim::Missed(1, LONGEST_TRANSITION as u64 - 1)),
-            100..=104 => self.as_there(),
-            105..=108 => self.aimed(Aim::Kept),
-            109 => self.left_out(),
+            47..=58 => self.aimed(Aim::Length(1, 1)),
+            59..=71 => self.aimed(Aim::Length(2, 8)),
+            72..=84 => self.aimed(Aim::Length(9, LONGEST_TRANSITION as u8)),
+            85..=90 => self.aimed(Aim::Behind),
+            91..=94 => self.aimed(Aim::Exhausted),
+            95..=96 => self.aimed(Aim::Missed(0, 0)),
+            97..=100 => self.aimed(Aim::Missed(1, LONGEST_TRANSITION as u64 - 1)),
+            101..=105 => self.as_there(),
+            106..=109 => self.aimed(Aim::Kept),
+            110..=119 => self.aimed(Aim::Scheduled),
+            120..=126 => self.left_out(),
             _ => self.returned(),
         }
     }
@@ -141,20 +166,25 @@ impl Generator {
         self.short(&request)
     }
 
-    /// What is listed without one of those with R above 1, which is to return at once.
+    /// What is listed without one, mostly with R above 1, which is to return at once.
     fn left_out(&mut self) -> Vec<u8> {
         let mut listing = self.timetable.listing();
-        let wide = listed(&listing).filter(|(_, share)| share.bound > 1);
-        let wide: Vec<(usize, u16)> = wide.map(|(id, share)| (id, share.period)).collect();
-        self.out = self.random.pick(&wide);
+        let all: Vec<(usize, Share)> = listed(&listing).collect();
+        let wide: Vec<(usize, Share)> =
+            listed(&listing).filter(|(_, share)| share.bound > 1).collect();
+        let some = self.random.pick(&wide).filter(|_| self.random.chance(3, 4));
+        self.out = some.or(self.random.pick(&all)).map(|(id, share)| (id, share.period));
         if let Some((id, _)) = self.out {
             listing[id] = None;
         }
-        let request = self.request(listing);
+        let mut request = self.request(listing);
+        if self.random.chance(1, 2) {
+            request.slot = self.slot_before_slices();
+        }
         self.short(&request)
     }
 
-    /// An id that was left out is asked for again by a short field, mostly for the same slot.
+    /// An id that was left out is asked for again, mostly for the same slot.
     fn back(&mut self, id: usize, period: u16) -> Vec<u8> {
         let mut listing = self.timetable.listing();
         listing[id].get_or_insert(Share { period, bound: 1 });
@@ -162,21 +192,58 @@ impl Generator {
         if self.random.chance(3, 4) {
             request.slot = self.timetable.base.min(LAST_SLOT);
         }
-        self.short(&request)
+        self.again(request)
     }
 
-    /// Some that left with R above 1 are asked for again by short fields, beside what is listed.
+    /// Some that left in debt are asked for again, beside what is listed.
     fn returned(&mut self) -> Vec<u8> {
         let mut listing = self.timetable.listing();
-        for id in (0..IDS).filter(|&id| self.left_with.slot(id).is_some()) {
-            if self.random.chance(1, 3) {
-                let k = self.random.between(2, u64::from(LARGEST_EXPONENT));
+        let in_debt = absent_in_debt(&self.timetable);
+        for _ in 0..self.random.between(1, 4) {
+            let k = self.random.between(3, u64::from(LARGEST_EXPONENT));
+            if let Some(id) = self.random.pick(&in_debt) {
                 listing[id] = Some(Share { period: 1 << k, bound: 1 });
             }
         }
         self.fit(&mut listing);
         let request = self.request(listing);
+        self.again(request)
+    }
+
+    /// Who returns is asked for by a short field, with the least R that bears what it owes, or with one
+    /// less.
+    fn again(&mut self, mut request: Request) -> Vec<u8> {
+        match self.random.below(10) {
+            0..=2 => (),
+            3..=5 => {
+                bear(&self.timetable, &mut request);
+                let returns = |id: &usize| !self.timetable.entries[*id].listed();
+                let shares = request.listing.iter_mut().enumerate();
+                for share in
+                    shares.filter(|(id, _)| returns(id)).filter_map(|(_, share)| share.as_mut())
+                {
+                    share.bound = (share.bound - 1).max(1);
+                }
+            }
+            _ => bear(&self.timetable, &mut request),
+        }
         self.short(&request)
+    }
+
+    /// What is listed with the least R that bears what is owed, mostly behind slices: so debts are
+    /// worked off, by a transition where several are urgent.
+    fn eased(&mut self) -> Request {
+        let mut request = self.request(self.timetable.listing());
+        request.slot = match self.random.chance(1, 2) {
+            true => slot_after_slices(&self.timetable),
+            false => {
+                self.slot_before_slices().saturating_add(self.random.between(1, 6)).min(LAST_SLOT)
+            }
+        };
+        request.longest = LONGEST_TRANSITION as u8;
+        lower(&mut request.listing);
+        bear(&self.timetable, &mut request);
+        request
     }
 
     /// What the desk asks after a refusal for want of a schedule: the same with a larger T.
@@ -203,7 +270,8 @@ impl Generator {
             if self.meets(aim, &request) {
                 self.tighten(&mut request);
                 self.pending = None;
-                return if aim == Aim::Kept { self.short(&request) } else { self.record(&request) };
+                let by_short = [Aim::Kept, Aim::Scheduled].contains(&aim);
+                return if by_short { self.short(&request) } else { self.record(&request) };
             }
         }
         self.unmet(aim)
@@ -213,15 +281,50 @@ impl Generator {
     /// already; 11 waits for its pair, and shares with R above 1 come before what they are kept for.
     fn unmet(&mut self, aim: Aim) -> Vec<u8> {
         let waited = self.pending.take().is_some();
-        let listing = match aim {
-            _ if waited => self.full_core(),
-            Aim::Exhausted => self.pair(),
-            Aim::Kept => self.wide_core(),
-            _ => self.block(),
-        };
         self.pending = Some(aim).filter(|_| !waited);
-        let request = self.request(listing);
+        let mut request = self.before(aim, waited);
+        for _ in 0..PREPARATIONS {
+            if self.outcome(&request).number != ACCEPTED {
+                request = self.before(aim, waited);
+            }
+        }
         self.record(&request)
+    }
+
+    /// What is asked before an aim can be met.
+    fn before(&mut self, aim: Aim, waited: bool) -> Request {
+        match aim {
+            _ if waited => {
+                let listing = self.full_core();
+                self.borne(listing)
+            }
+            Aim::Exhausted => {
+                let listing = self.pair();
+                self.borne(listing)
+            }
+            Aim::Scheduled => {
+                let mut listing = [None; IDS];
+                for _ in 0..self.random.between(1, 4) {
+                    self.add_patient(&mut listing);
+                }
+                for share in listing.iter_mut().flatten() {
+                    share.bound = 2;
+                }
+                let mut request = self.request(listing);
+                bear(&self.timetable, &mut request);
+                request
+            }
+            Aim::Kept => {
+                let listing = self.wide_core();
+                let mut request = self.request(listing);
+                bear(&self.timetable, &mut request);
+                request
+            }
+            _ => {
+                let listing = self.block();
+                self.borne(listing)
+            }
+        }
     }
 
     /// Now and then T is set to the least from which on a larger one changes nothing, to one less,
@@ -266,10 +369,13 @@ impl Generator {
             Aim::Any => self.any_change(),
             Aim::Behind => self.lowered_bounds(),
             Aim::Exhausted => self.filled(),
-            Aim::Kept => self.kept_bounds(),
+            Aim::Kept | Aim::Scheduled => self.kept_bounds(),
             Aim::Missed(..) if self.random.chance(1, 2) => self.pressed(),
-            _ if self.random.chance(1, 3) => self.any_change(),
-            _ => self.newcomers(),
+            _ => match self.random.below(3) {
+                0 => self.any_change(),
+                1 => self.eased(),
+                _ => self.newcomers(),
+            },
         }
     }
 
@@ -286,6 +392,7 @@ impl Generator {
         if self.random.chance(3, 4) {
             request.slot = self.slot_before_slices();
         }
+        bear(&self.timetable, &mut request);
         request
     }
 
@@ -298,7 +405,7 @@ impl Generator {
         if self.random.chance(9, 10) {
             self.fit(&mut listing);
         }
-        self.request(listing)
+        self.borne(listing)
     }
 
     /// One alteration: an id comes or leaves, a period or a bound goes up or down by one step.
@@ -323,12 +430,14 @@ impl Generator {
     /// One or two newcomers with short periods and large bounds beside the present listing.
     fn newcomers(&mut self) -> Request {
         let mut listing = self.timetable.listing();
+        if much_is_owed(&self.timetable) || self.random.chance(1, 2) {
+            lower(&mut listing);
+        }
         if self.random.chance(1, 3) {
             self.remove_widest(&mut listing);
         }
         for _ in 0..self.random.between(1, 2) {
-            let bound = self.random.between(1, u64::from(LARGEST_BOUND)) as u8;
-            self.add(&mut listing, bound);
+            self.add_patient(&mut listing);
         }
         if self.random.chance(1, 4) {
             self.fill(&mut listing);
@@ -341,6 +450,7 @@ impl Generator {
         if self.random.chance(2, 3) {
             request.slot = self.slot_before_slices();
         }
+        bear(&self.timetable, &mut request);
         request
     }
 
@@ -350,7 +460,9 @@ impl Generator {
         self.fill(&mut listing);
         let later = self.random.between(CYCLE as u64 / 2, CYCLE as u64 - LONGEST_TRANSITION as u64);
         let slot = self.timetable.base.saturating_add(later).min(LAST_SLOT);
-        Request { slot, longest: LONGEST_TRANSITION as u8, listing }
+        let mut request = Request { slot, longest: LONGEST_TRANSITION as u8, listing };
+        bear(&self.timetable, &mut request);
+        request
     }
 
     /// A slot at most a few slots before some listed partition's own, where its shortfall is high.
@@ -396,11 +508,12 @@ impl Generator {
             6 => [None; IDS],
             _ => self.full_core(),
         };
-        let request = self.request(listing);
+        let request = self.borne(listing);
         self.record(&request)
     }
 
-    /// A block of ids with one long period and bound 1, which the placement sets side by side.
+    /// A block of ids with one long period and the least bounds, which the placement sets side by side;
+    /// now and then rather of those that owe more, so that they work it off.
     fn block(&mut self) -> Listing {
         let mut listing = [None; IDS];
         let k = self.random.between(3, 7);
@@ -408,7 +521,9 @@ impl Generator {
         let wanted = self.random.between(most / 2, most);
         let kept = self.random.chance(1, 4);
         for _ in 0..wanted {
-            let id = self.random.below(IDS as u64) as usize;
+            let some = [(); 2].map(|()| self.random.below(IDS as u64) as usize);
+            let further = |id: &usize| self.timetable.entries[*id].shortfall % CYCLE as u16;
+            let id = some.into_iter().min_by_key(further).unwrap_or(0);
             if !kept || !self.timetable.entries[id].listed() {
                 listing[id] = Some(Share { period: 1 << k, bound: 1 });
             }
@@ -459,7 +574,11 @@ impl Generator {
     fn wide_core(&mut self) -> Listing {
         let mut listing = self.full_core();
         for share in listing.iter_mut().flatten() {
-            share.bound = self.random.between(2, u64::from(LARGEST_BOUND)) as u8;
+            share.bound = if self.random.chance(7, 8) {
+                2
+            } else {
+                self.random.between(2, u64::from(LARGEST_BOUND)) as u8
+            };
         }
         listing
     }
@@ -497,13 +616,22 @@ impl Generator {
 
     /// One more share for an id that is not listed, as heavy as the free weight allows or lighter.
     fn add(&mut self, listing: &mut Listing, bound: u8) {
-        let unlisted: Vec<usize> = (0..IDS).filter(|&id| listing[id].is_none()).collect();
-        let Some(id) = self.random.pick(&unlisted) else { return };
-        let lightest = u64::from(LARGEST_EXPONENT);
-        let free = CYCLE as i64 - weights(listing);
-        let heaviest = (0..=lightest).find(|k| CYCLE as i64 >> k <= free).unwrap_or(lightest);
         let further = if self.random.chance(1, 2) { 0 } else { self.random.between(0, 3) };
-        listing[id] = Some(Share { period: 1 << (heaviest + further).min(lightest), bound });
+        if let Some(id) = self.random.pick(&not_in(listing)) {
+            listing[id] = Some(Share { period: lighter(listing, further), bound });
+        }
+    }
+
+    /// One more share with any bound for an id that is not listed, that of some which owes least, and
+    /// lighter, so that it can wait.
+    fn add_patient(&mut self, listing: &mut Listing) {
+        let (bound, further) =
+            (self.random.between(1, 8) as u8, self.random.below(2) * self.random.between(0, 3));
+        let some = [(); 4].map(|()| self.random.pick(&not_in(listing)));
+        let owed = |id: &usize| self.timetable.entries[*id].shortfall;
+        if let Some(id) = some.into_iter().flatten().min_by_key(owed) {
+            listing[id] = Some(Share { period: lighter(listing, further), bound });
+        }
     }
 
     /// Shares are added until the weights sum to 256 or all ids are listed.
@@ -541,6 +669,22 @@ impl Generator {
         } else {
             self.random.between(1, u64::from(LARGEST_BOUND)) as u8
         }
+    }
+
+    /// A request for a listing in which each R bears what its id owes, mostly as the least one; now and
+    /// then some do not.
+    fn borne(&mut self, listing: Listing) -> Request {
+        let mut request = self.request(listing);
+        if self.random.chance(1, 2) {
+            request.slot = slot_after_slices(&self.timetable);
+        }
+        if much_is_owed(&self.timetable) || self.random.chance(1, 2) {
+            lower(&mut request.listing);
+        }
+        if self.random.chance(31, 32) {
+            bear(&self.timetable, &mut request);
+        }
+        request
     }
 
     /// A request for a listing at some slot from the base on, with some T.
@@ -592,6 +736,13 @@ impl Generator {
                 let with_one = self.outcome(&self.with_one(request));
                 (outcome.number, with_one.number) == (ACCEPTED, SHORTFALL_TOO_LARGE)
             }
+            Aim::Scheduled => {
+                let with_one = self.outcome(&self.with_one(request));
+                let offsets =
+                    |outcome: &Outcome| outcome.timetable.entries.map(|entry| entry.offset);
+                let other = with_one.number != ACCEPTED || offsets(&with_one) != offsets(&outcome);
+                outcome.number == ACCEPTED && with_one.number != SHORTFALL_TOO_LARGE && other
+            }
         }
     }
 
@@ -614,7 +765,7 @@ impl Generator {
 
     /// The fields of a request one by one, some short where R is as before.
     fn fields(&mut self, request: &Request) -> Vec<Vec<u8>> {
-        let part = if self.random.chance(1, 4) { 3 } else { 1 };
+        let part = if self.random.chance(1, 2) { 3 } else { 1 };
         self.fields_short(request, part)
     }
 
@@ -665,6 +816,19 @@ impl Iterator for Generator {
 /// The exponent k of a share's period 2^k.
 fn exponent(share: Share) -> u8 {
     (0..=LARGEST_EXPONENT).find(|&k| share.period == 1 << k).unwrap_or(0)
+}
+
+/// The ids that a listing leaves out.
+fn not_in(listing: &Listing) -> Vec<usize> {
+    (0..IDS).filter(|&id| listing[id].is_none()).collect()
+}
+
+/// The shortest period for which a listing leaves weight, or so many times twice as long.
+fn lighter(listing: &Listing, further: u64) -> u16 {
+    let lightest = u64::from(LARGEST_EXPONENT);
+    let free = CYCLE as i64 - weights(listing);
+    let heaviest = (0..=lightest).find(|k| CYCLE as i64 >> k <= free).unwrap_or(lightest);
+    1 << (heaviest + further).min(lightest)
 }
 
 /// The sum of a listing's weights.

@@ -14,6 +14,7 @@ pub mod cases;
 pub mod change;
 pub mod clauses;
 pub mod counts;
+pub mod debt_counts;
 pub mod documents;
 pub mod figures;
 pub mod frames;
@@ -31,6 +32,7 @@ pub mod timetable;
 mod absences;
 mod archived;
 mod damage;
+mod debts;
 mod desk;
 mod dictionary;
 mod followed;
@@ -41,6 +43,7 @@ mod spoil;
 mod untouched;
 mod walks;
 mod worked;
+mod working_off;
 
 #[cfg(test)]
 mod archives_tests;

@@ -63,7 +63,7 @@ impl Probes {
     /// Now and then the transition of the history's timetable is swept, or that of any sound one.
     fn next_sweep(&mut self) -> Vec<Made> {
         let reached = self.history.timetable();
-        if reached.length > 0 && self.random.chance(1, 14) {
+        if reached.length > 0 && self.random.chance(1, 9) {
             return self.swept(Origin::SweptReached, &reached);
         }
         if self.random.chance(1, 80) {

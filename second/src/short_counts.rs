@@ -96,7 +96,7 @@ fn above_one(timetable: &Timetable, id: usize, ask: Ask) -> bool {
 
 /// The class of a short field by its id.
 fn id_class(timetable: &Timetable, left: &Left, slot: u64, id: usize) -> usize {
-    match (timetable.listing()[id], left.slot(id)) {
+    match (timetable.listing()[id], left.slot_with_wide(id)) {
         (Some(share), _) if share.bound > 1 => 1,
         (Some(_), _) => 0,
         (None, None) => 2,

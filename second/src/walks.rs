@@ -2,10 +2,10 @@
 //! transition does not lead to the base's shortfalls; now and then one that is still sound.
 
 use crate::built::{
-    alone, go_on, led_to, lengthen, limit, listed_ids, match_base, some_listed, unlisted_ids,
+    alone, go_on, led_to, lengthen, limit, listed_ids, match_base, some_listed, some_unlisted,
 };
 use crate::random::Random;
-use crate::timetable::{Timetable, CYCLE, LONGEST_TRANSITION};
+use crate::timetable::{Timetable, CYCLE, DEBT_LIMIT, LONGEST_TRANSITION};
 
 /// A listed partition starts at exactly 256 R, one below, or above, and the transition leads from
 /// there to its shortfall, within its bound where it can.
@@ -42,20 +42,21 @@ fn serve(timetable: &mut Timetable, id: usize, start: u16) {
     match_base(timetable);
 }
 
-/// An id that is not listed does not start at 0: alone, with the shortfall at the base to match, or
-/// with a transition slot that takes its start off.
+/// An id that is not listed owes something else at the request slot than at the base: one more or
+/// less, a whole slot, or any; now and then a transition slot takes that off.
 pub fn unlisted_start(random: &mut Random, timetable: &mut Timetable) {
-    if unlisted_ids(timetable).is_empty() {
-        let id = some_listed(random, timetable);
-        alone(timetable, id);
-    }
-    let Some(id) = random.pick(&unlisted_ids(timetable)) else { return };
-    let start = random.pick(&[1, 255, 256, 257, u16::MAX]).unwrap_or(1);
-    timetable.starts[id] = start;
-    match random.below(16) {
-        0..=1 => timetable.entries[id].shortfall = start,
-        2 if timetable.length > 0 => timetable.owners[0] = id as u8,
-        _ => (),
+    let id = some_unlisted(random, timetable);
+    let any = random.below(u64::from(DEBT_LIMIT)) as u16;
+    let kept = timetable.entries[id].shortfall;
+    let debt = random.pick(&[kept, kept, any, DEBT_LIMIT - 1]).unwrap_or(kept);
+    let near = [debt.saturating_sub(1), debt.saturating_sub(CYCLE as u16), debt / 2];
+    let other = random.pick(&[near[0], near[0], near[1], near[2], 0, any]).unwrap_or(0);
+    let other = if other == debt { (debt + 1) % DEBT_LIMIT } else { other };
+    (timetable.starts[id], timetable.entries[id].shortfall) =
+        if random.chance(1, 2) { (debt, other) } else { (other, debt) };
+    if timetable.length > 0 && random.chance(1, 16) {
+        timetable.owners[0] = id as u8;
+        timetable.entries[id].shortfall = led_to(timetable, id, timetable.starts[id]);
     }
 }
 
