@@ -86,21 +86,37 @@ fn from_b() -> Vec<Vec<u8>> {
     requests
 }
 
-/// The cases as one stream of requests from the empty timetable; at its end nothing is listed. What
-/// B lists at its base leaves the schedule as B's was, so that D with a short field meets that.
+/// The cases as one stream of requests from the empty timetable; at its end, at slot 14, nothing is
+/// listed and nothing is owed. What B lists at its base leaves the schedule as B's was, so that D with a
+/// short field meets that.
 pub fn requests() -> Vec<Vec<u8>> {
     let mut requests = from_empty();
     requests.extend([request_j(), record(0, 0, &[])]);
     requests.extend([request_a(), request_b(6, 0), request_b(6, 1)]);
     requests.extend(from_b());
     requests.extend([request_b(7, 64), request_short(8, 64)]);
-    requests.extend([request_left(8, 64), request_short(8, 64), record(8, 64, &[])]);
+    requests.extend([request_left(8, 0), request_short(8, 0), request_d(8, 0), request_d(20, 0)]);
+    requests.extend([request_b(8, 0), record(8, 64, &[])]);
+    requests.extend(worked_off());
     requests
+}
+
+/// Ids 1 and 2 work off the 64 and the 256 that they owe at slot 8. Id 0 takes slot 9, so that id 2 has
+/// slot 8 though it could wait; at slot 9 it owes 128, so that it has that slot too with R 1. Then id 0
+/// has slot 10, and id 1 slot 13.
+fn worked_off() -> Vec<Vec<u8>> {
+    vec![
+        record(8, 0, &[(0, 1, 1), (2, 1, 2)]),
+        record(9, 0, &[(2, 1, 1)]),
+        record(10, 0, &[(0, 1, 1)]),
+        record(11, 0, &[(1, 2, 1)]),
+        record(14, 0, &[]),
+    ]
 }
 
 /// The cases as probes, each from the timetable that it speaks of.
 pub fn probes() -> Vec<Vec<u8>> {
-    [empties(), changes(), short_fields(), areas(), queries()].concat()
+    [empties(), changes(), short_fields(), debts(), areas(), queries()].concat()
 }
 
 /// The empty timetable in an image, and in one that is too short.
@@ -126,15 +142,39 @@ fn changes() -> Vec<Vec<u8>> {
     probes
 }
 
-/// After B: D with a short field for id 2; at slot 7 id 2 is left out, and returns by a short field.
+/// After B: D with a short field for id 2; at slot 7 id 2 is left out, and returns at slot 8 by a short
+/// field.
 fn short_fields() -> Vec<Vec<u8>> {
     let b = [request_a(), request_b(6, 1)];
-    let left = [&b[..], &[request_left(7, 64)]].concat();
+    let left = [&b[..], &[request_left(7, 0)]].concat();
     vec![
         change_probe(&after(&b), &request_short(8, 64), 231),
-        change_probe(&after(&b), &request_left(7, 64), 231),
-        change_probe(&after(&left), &request_short(7, 64), 231),
+        change_probe(&after(&b), &request_left(7, 0), 231),
+        change_probe(&after(&left), &request_short(8, 0), 231),
     ]
+}
+
+/// After B: id 2 is left out at slot 8, where it owes 256, and asked for at slot 8 and at slot 20; and
+/// the empty listing where id 2 is not listed and owes 2,047, 2,048, or two amounts.
+fn debts() -> Vec<Vec<u8>> {
+    let b = [request_a(), request_b(6, 1)];
+    let left = after(&[&b[..], &[request_left(8, 0)]].concat());
+    let again = [request_d(8, 0), request_short(8, 0), request_b(8, 0), request_d(20, 0)];
+    let mut probes = vec![change_probe(&after(&b), &request_left(8, 0), 231)];
+    probes.extend(again.iter().map(|request| change_probe(&left, request, 231)));
+    probes.push(standing_content(&image_field(&image_of(&left)), 2, 8));
+    let debts = [(2047, 2047), (2048, 2048), (2047, 2046), (2046, 2047)];
+    probes.extend(debts.map(|(start, shortfall)| {
+        change_probe(&in_debt(start, shortfall), &record(0, 0, &[]), 231)
+    }));
+    probes
+}
+
+/// The empty timetable with what id 2, which is not listed, owes at the request slot and at the base.
+pub fn in_debt(start: u16, shortfall: u16) -> Timetable {
+    let mut timetable = Timetable::empty();
+    (timetable.starts[2], timetable.entries[2].shortfall) = (start, shortfall);
+    timetable
 }
 
 /// Areas of 230 bytes, of 231 and more, and faults of several stages at once.

@@ -18,6 +18,8 @@ use crate::working_off::worked_off;
 const CANDIDATES: usize = 40;
 /// How often what comes before an aim is made anew if it would be refused.
 const PREPARATIONS: usize = 6;
+/// The first slot of a stream, behind all slots of the cases.
+const FIRST_SLOT: u64 = 21;
 /// A huge jump takes at most one in so many of the slots left, less in long streams.
 const LEAST_JUMP_PART: u64 = 64;
 /// A stream's last part begins at most so many slots for each of its requests before the highest.
@@ -83,15 +85,17 @@ pub struct Generator {
     out: Option<(usize, u16)>,
     left_with: Left,
     spell: u64,
+    begins: bool,
 }
 
 impl Generator {
-    /// The stream of a seed with so many requests; its last fiftieth runs towards the highest slot.
+    /// The stream of a seed with so many requests; its last fiftieth runs towards the highest slot. It
+    /// may follow the cases: the first request is for a slot behind theirs.
     pub fn new(seed: u64, count: u64) -> Generator {
-        Generator::after(Timetable::empty(), seed, count)
+        Generator { begins: true, ..Generator::after(Timetable::empty(), seed, count) }
     }
 
-    /// The same from a sound timetable on, instead of the empty one.
+    /// The same from a sound timetable on, whatever the slots.
     pub fn after(timetable: Timetable, seed: u64, count: u64) -> Generator {
         Generator {
             random: Random::new(seed),
@@ -104,6 +108,7 @@ impl Generator {
             out: None,
             left_with: Left::default(),
             spell: 0,
+            begins: false,
         }
     }
 
@@ -116,6 +121,10 @@ impl Generator {
     /// that was left out returns, now and then debts are worked off, and then mostly comes an aim that
     /// waits for its block.
     fn make(&mut self) -> Vec<u8> {
+        if self.begins {
+            self.begins = false;
+            return self.first();
+        }
         if let Some(raised) = self.raised() {
             return raised;
         }
@@ -134,29 +143,36 @@ impl Generator {
         if let Some(aim) = self.pending.filter(|_| self.random.chance(3, 4)) {
             return self.aimed(aim);
         }
-        match self.random.below(138) {
-            0..=26 => {
+        match self.random.below(150) {
+            0..=33 => {
                 let request = self.any_change();
                 let fields = self.fields(&request);
                 damaged(&mut self.random, fields)
             }
-            27..=30 => self.too_early(),
-            31..=34 => self.overfull(),
-            35..=41 => self.rebuilt(),
-            42..=46 => self.aimed(Aim::Any),
-            47..=58 => self.aimed(Aim::Length(1, 1)),
-            59..=71 => self.aimed(Aim::Length(2, 8)),
-            72..=84 => self.aimed(Aim::Length(9, LONGEST_TRANSITION as u8)),
-            85..=90 => self.aimed(Aim::Behind),
-            91..=94 => self.aimed(Aim::Exhausted),
-            95..=96 => self.aimed(Aim::Missed(0, 0)),
-            97..=100 => self.aimed(Aim::Missed(1, LONGEST_TRANSITION as u64 - 1)),
-            101..=105 => self.as_there(),
-            106..=109 => self.aimed(Aim::Kept),
-            110..=119 => self.aimed(Aim::Scheduled),
-            120..=126 => self.left_out(),
+            34..=40 => self.too_early(),
+            41..=47 => self.overfull(),
+            48..=52 => self.rebuilt(),
+            53..=57 => self.aimed(Aim::Any),
+            58..=69 => self.aimed(Aim::Length(1, 1)),
+            70..=83 => self.aimed(Aim::Length(2, 8)),
+            84..=98 => self.aimed(Aim::Length(9, LONGEST_TRANSITION as u8)),
+            99..=104 => self.aimed(Aim::Behind),
+            105..=108 => self.aimed(Aim::Exhausted),
+            109..=110 => self.aimed(Aim::Missed(0, 0)),
+            111..=114 => self.aimed(Aim::Missed(1, LONGEST_TRANSITION as u64 - 1)),
+            115..=119 => self.as_there(),
+            120..=122 => self.aimed(Aim::Kept),
+            123..=132 => self.aimed(Aim::Scheduled),
+            133..=139 => self.left_out(),
             _ => self.returned(),
         }
+    }
+
+    /// A block at a slot behind those of the cases.
+    fn first(&mut self) -> Vec<u8> {
+        let listing = self.block();
+        let slot = FIRST_SLOT + self.random.below(CYCLE as u64);
+        self.record(&Request { slot, longest: 0, listing })
     }
 
     /// Exactly what is listed, by short fields.

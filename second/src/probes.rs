@@ -355,7 +355,7 @@ pub fn trim(random: &mut Random, content: &mut Vec<u8>) {
 /// A history of some requests from the empty timetable.
 pub fn fresh_history(random: &mut Random) -> Generator {
     let requests = random.between(40, 400);
-    Generator::new(random.bits(), requests)
+    Generator::after(Timetable::empty(), random.bits(), requests)
 }
 
 impl Iterator for Probes {
