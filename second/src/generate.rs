@@ -153,24 +153,24 @@ impl Generator {
             41..=47 => self.overfull(),
             48..=52 => self.rebuilt(),
             53..=57 => self.aimed(Aim::Any),
-            58..=69 => self.aimed(Aim::Length(1, 1)),
-            70..=83 => self.aimed(Aim::Length(2, 8)),
-            84..=98 => self.aimed(Aim::Length(9, LONGEST_TRANSITION as u8)),
-            99..=104 => self.aimed(Aim::Behind),
-            105..=108 => self.aimed(Aim::Exhausted),
-            109..=110 => self.aimed(Aim::Missed(0, 0)),
-            111..=114 => self.aimed(Aim::Missed(1, LONGEST_TRANSITION as u64 - 1)),
-            115..=119 => self.as_there(),
-            120..=122 => self.aimed(Aim::Kept),
-            123..=132 => self.aimed(Aim::Scheduled),
-            133..=139 => self.left_out(),
+            58..=67 => self.aimed(Aim::Length(1, 1)),
+            68..=78 => self.aimed(Aim::Length(2, 8)),
+            79..=90 => self.aimed(Aim::Length(9, LONGEST_TRANSITION as u8)),
+            91..=96 => self.aimed(Aim::Behind),
+            97..=100 => self.aimed(Aim::Exhausted),
+            101..=102 => self.aimed(Aim::Missed(0, 0)),
+            103..=106 => self.aimed(Aim::Missed(1, LONGEST_TRANSITION as u64 - 1)),
+            107..=112 => self.as_there(),
+            113..=115 => self.aimed(Aim::Kept),
+            116..=125 => self.aimed(Aim::Scheduled),
+            126..=133 => self.left_out(),
             _ => self.returned(),
         }
     }
 
     /// A block at a slot behind those of the cases.
     fn first(&mut self) -> Vec<u8> {
-        let listing = self.block();
+        let listing = self.block(3);
         let slot = FIRST_SLOT + self.random.below(CYCLE as u64);
         self.record(&Request { slot, longest: 0, listing })
     }
@@ -336,8 +336,12 @@ impl Generator {
                 bear(&self.timetable, &mut request);
                 request
             }
+            Aim::Length(9.., _) => {
+                let listing = self.block(5);
+                self.borne(listing)
+            }
             _ => {
-                let listing = self.block();
+                let listing = self.block(3);
                 self.borne(listing)
             }
         }
@@ -387,7 +391,7 @@ impl Generator {
             Aim::Exhausted => self.filled(),
             Aim::Kept | Aim::Scheduled => self.kept_bounds(),
             Aim::Missed(..) if self.random.chance(1, 2) => self.pressed(),
-            _ => match self.random.below(3) {
+            _ => match self.random.below(6) {
                 0 => self.any_change(),
                 1 => self.eased(),
                 _ => self.newcomers(),
@@ -519,7 +523,7 @@ impl Generator {
     /// A listing made anew: a block, all 32 ids, nothing, or any shares up to a full core.
     fn rebuilt(&mut self) -> Vec<u8> {
         let listing = match self.random.below(8) {
-            0..=4 => self.block(),
+            0..=4 => self.block(3),
             5 => self.all_ids(),
             6 => [None; IDS],
             _ => self.full_core(),
@@ -530,9 +534,9 @@ impl Generator {
 
     /// A block of ids with one long period and the least bounds, which the placement sets side by side;
     /// now and then rather of those that owe more, so that they work it off.
-    fn block(&mut self) -> Listing {
+    fn block(&mut self, least: u64) -> Listing {
         let mut listing = [None; IDS];
-        let k = self.random.between(3, 7);
+        let k = self.random.between(least, 7);
         let most = (IDS as u64 - 2).min(1 << (k - 1));
         let wanted = self.random.between(most / 2, most);
         let kept = self.random.chance(1, 4);

@@ -50,6 +50,8 @@ mod archives_tests;
 #[cfg(test)]
 mod as_before;
 #[cfg(test)]
+mod debts_tests;
+#[cfg(test)]
 mod figures_tests;
 #[cfg(test)]
 mod probe_tests;

@@ -228,9 +228,9 @@ fn each_clause_is_broken_on_its_own() {
         }
     }
     assert!(alone.iter().all(|&times| times > 400), "{alone:?}");
-    assert!(sound.iter().all(|&times| times < 750), "{sound:?}");
+    assert!(sound.iter().all(|&times| times < 800), "{sound:?}");
     assert!(
-        [7, 12, 14].iter().all(|&at| sound[at] > 250),
+        [7, 12, 14, 15].iter().all(|&at| sound[at] > 250),
         "one below is sound, and a start that leads there: {sound:?}"
     );
 }

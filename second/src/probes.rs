@@ -66,7 +66,7 @@ impl Probes {
         if reached.length > 0 && self.random.chance(1, 9) {
             return self.swept(Origin::SweptReached, &reached);
         }
-        if self.random.chance(1, 80) {
+        if self.random.chance(1, 70) {
             let built = built_with_transition(&mut self.random);
             return self.swept(Origin::SweptBuilt, &built);
         }
@@ -134,11 +134,11 @@ impl Probes {
         }
     }
 
-    /// A clause of soundness; one in four is of the starts and of the walk in any case.
+    /// A clause of soundness; one in three is of the starts and of the walk in any case.
     fn clause(&mut self) -> Clause {
         let of_starts =
             CLAUSES.iter().position(|&(clause, _)| clause == Clause::Start).unwrap_or(0);
-        let first = if self.random.chance(1, 4) { of_starts } else { 0 };
+        let first = if self.random.chance(1, 3) { of_starts } else { 0 };
         self.random.pick(&CLAUSES[first..]).unwrap_or(CLAUSES[0]).0
     }
 

@@ -140,18 +140,87 @@ fn case_d_with_a_short_field() {
     assert_eq!(area, bytes);
 }
 
-/// At slot 7 id 2 is left out: id 0, with room 0, takes slot 0, and id 1 slot 3. It returns at slot 7
-/// by a short field, newly listed with R 1 and last offset 1, and takes the odd slots.
+/// An entry that is not listed, of an id that owes so much.
+fn owing(shortfall: u16) -> Entry {
+    Entry { shortfall, ..Entry::default() }
+}
+
+/// 11.3: at slot 7 id 2, which owes 128, is left out: id 0, with room 0, takes slot 0, and id 1 slot 3.
+/// It returns at slot 8 by a short field, with R 1, and still owes 128: its last offset is 0, so it
+/// takes the even slots, id 1 slot 1 and id 0 slot 3.
 #[test]
 fn leaving_and_returning_with_a_short_field() {
-    let left = accepted(&after_b(), &request_left(7, 64), 1);
+    let left = accepted(&after_b(), &request_left(7, 0), 1);
     assert_eq!(offsets(&left, [0, 1]), [0, 3]);
-    assert_eq!(left.entries[2], Entry::default());
-    let returned = accepted(&left, &request_short(7, 64), 1);
-    assert_eq!((returned.request_slot, returned.length, returned.base), (7, 0, 7));
-    assert_eq!(offsets(&returned, [0, 1, 2]), [0, 2, 1]);
+    assert_eq!((left.entries[2], left.starts[2]), (owing(128), 128));
+    let returned = accepted(&left, &request_short(8, 0), 1);
+    assert_eq!((returned.request_slot, returned.length, returned.base), (8, 0, 8));
+    assert_eq!(offsets(&returned, [0, 1, 2]), [3, 1, 0]);
     assert_eq!([0, 1, 2].map(|id| returned.entries[id].bound), [1, 1, 1]);
-    assert_eq!([0, 1, 2].map(|id| returned.entries[id].shortfall), [192, 0, 0]);
+    assert_eq!([0, 1, 2].map(|id| returned.entries[id].shortfall), [0, 64, 128]);
+    // At slot 7 ids 0 and 2 have room 0 both.
+    refused(&left, &request_short(7, 0), 11, 0, 1);
+    refused(&left, &request_short(7, 64), 9, 0, 1);
+}
+
+/// 11.5: id 2 leaves at slot 8, where it owes 256. With R 1, in full or by a short field, it does not
+/// return at slot 8 nor after twelve slots; with R 2 it does, and owes what it owed.
+#[test]
+fn a_debt_across_an_absence() {
+    let left = accepted(&after_b(), &request_left(8, 0), 1);
+    assert_eq!((left.entries[2], left.starts[2]), (owing(256), 256));
+    assert_eq!([8, 9, 20].map(|slot| standing_query(&left, 2, slot)), [(10, 0, 0); 3]);
+    for slot in [8, 9, 20, LAST_SLOT] {
+        for longest in [0, 64] {
+            refused(&left, &request_d(slot, longest), 8, 2, 0);
+            refused(&left, &request_short(slot, longest), 8, 2, 0);
+        }
+    }
+    let returned = accepted(&left, &cases::request_b(8, 0), 1);
+    assert_eq!(offsets(&returned, [0, 1, 2]), [0, 2, 1]);
+    assert_eq!(shortfalls(&returned, 8), [0, 64, 256]);
+    assert_eq!(returned, accepted(&after_b(), &cases::request_b(8, 0), 1));
+    let later = accepted(&left, &cases::request_b(20, 0), 1);
+    assert_eq!((later.starts[2], later.entries[2].shortfall), (256, 256));
+}
+
+/// 11.5: from the empty timetable with what id 2 owes at the request slot and at the base.
+#[test]
+fn the_largest_debt() {
+    let kept = accepted(&cases::in_debt(2047, 2047), &record(9, 0, &[]), 1);
+    assert_eq!((kept.entries[2], kept.starts[2]), (owing(2047), 2047));
+    for (start, shortfall) in [(2048, 2048), (2047, 2046), (2046, 2047), (2048, 2047), (0, 1)] {
+        refused(&cases::in_debt(start, shortfall), &record(0, 0, &[]), 1, 0, 0);
+    }
+    // It returns with R 8 alone, and has to be served at once.
+    for bound in 1..8 {
+        refused(&kept, &record(9, 64, &[(2, 2, bound)]), 8, 2, 0);
+    }
+    let returned = accepted(&kept, &record(9, 64, &[(2, 2, 8)]), 1);
+    assert_eq!((offsets(&returned, [2]), returned.starts[2]), ([0], 2047));
+}
+
+/// The cases end with nothing listed and nothing owed.
+#[test]
+fn the_cases_end_without_debts() {
+    let end = cases::requests().iter().fold(Timetable::empty(), |timetable, request| {
+        change(&timetable, request, &mut [0; AREA]).timetable
+    });
+    assert_eq!(end, Timetable { request_slot: 14, base: 14, ..Timetable::empty() });
+}
+
+/// So the stored stream meets behind the cases what it was made for.
+#[test]
+fn a_stream_follows_the_cases() {
+    let (mut alone, mut behind) = (Timetable::empty(), Timetable::empty());
+    for request in cases::requests() {
+        behind = change(&behind, &request, &mut [0; AREA]).timetable;
+    }
+    for request in Generator::new(1, 500) {
+        let outcome = change(&alone, &request, &mut [0; AREA]);
+        assert_eq!(outcome, change(&behind, &request, &mut [0; AREA]));
+        (alone, behind) = (outcome.timetable, outcome.timetable);
+    }
 }
 
 /// A request is refused 9 with a slot as its place at each T above it, and else 11 with place T.
@@ -227,7 +296,11 @@ fn case_i() {
     assert_eq!((outcome.number, outcome.tries, outcome.written), (0, 1, 7));
     assert_eq!(outcome.timetable, Timetable::empty());
     let after = accepted(&after_b(), &record(99, 64, &[]), 1);
-    assert_eq!(after, Timetable { request_slot: 99, base: 99, ..Timetable::empty() });
+    let mut empty = Timetable { request_slot: 99, base: 99, ..Timetable::empty() };
+    for (id, owed) in [192, 64, 128].into_iter().enumerate() {
+        (empty.entries[id], empty.starts[id]) = (owing(owed), owed);
+    }
+    assert_eq!(after, empty);
 }
 
 /// J: period 1 alone gets offset 0; a later id besides is refused 7 at that id.
@@ -400,18 +473,22 @@ fn seven_names_the_id_where_the_running_sum_passes() {
     accepted(&empty, &record(0, 0, &[(1, 1, 1), (2, 1, 1)]), 1);
 }
 
-/// One that leaves and returns in one slot starts at 0; one that stays keeps its shortfall.
+/// One that leaves and returns in one slot comes to the same as one that stays; one that returns later
+/// owes what it owed, however many slots have passed.
 #[test]
-fn a_partition_that_returns_starts_at_zero() {
+fn a_partition_returns_with_its_debt() {
     let a = after_a();
     assert_eq!(shortfalls(&a, 2), [128, 128, 0]);
-    let left = accepted(&a, &record(2, 0, &[(1, 2, 1)]), 1);
-    let back = accepted(&left, &record(2, 0, &[(0, 2, 1), (1, 2, 1)]), 1);
-    assert_eq!([0, 1].map(|id| back.entries[id].shortfall), [0, 128]);
-    assert_eq!(offsets(&back, [0, 1]), [3, 1]);
     let kept = accepted(&a, &record(2, 0, &[(0, 2, 1), (1, 2, 1)]), 1);
     assert_eq!([0, 1].map(|id| kept.entries[id].shortfall), [128, 128]);
     assert_eq!(offsets(&kept, [0, 1]), [1, 0]);
+    let left = accepted(&a, &record(2, 0, &[(1, 2, 1)]), 1);
+    assert_eq!(accepted(&left, &record(2, 0, &[(0, 2, 1), (1, 2, 1)]), 1), kept);
+    for slot in [3, 4, 258, 1 << 40, LAST_SLOT] {
+        let later = accepted(&left, &record(slot, 0, &[(0, 2, 1)]), 1);
+        assert_eq!((later.starts[0], later.entries[0].shortfall), (128, 128));
+        assert_eq!(offsets(&later, [0]), [1]);
+    }
 }
 
 /// A shortfall of exactly 256 R is refused 8, one less is not.
@@ -641,11 +718,13 @@ fn soundness_of_an_entry() {
         alone(period, offset, bound, most + 1, false);
     }
     alone(4, 0, 8, u16::MAX, false);
-    // An unlisted entry is all zero.
-    alone(0, 0, 0, 0, true);
-    alone(0, 1, 0, 0, false);
-    alone(0, 0, 1, 0, false);
-    alone(0, 0, 0, 1, false);
+    // An unlisted entry has no offset and no bound, and a shortfall below 256 times the largest R.
+    for (debt, sound) in [(0, true), (1, true), (2047, true), (2048, false), (u16::MAX, false)] {
+        alone(0, 0, 0, debt, sound);
+        alone(0, 1, 0, debt, false);
+        alone(0, 0, 1, debt, false);
+        alone(0, 0, 8, debt, false);
+    }
 }
 
 /// Two partitions that share a slot with equal and with different periods, and neighbours.
@@ -832,7 +911,9 @@ fn lines_of_the_cases() {
     let lines = "1 3 0 0 0\n2 3 11 0 0\n3 4 0 0 0\n4 4 11 0 0\n5 0 0 1 0\n6 0 0 1 0\n7 7 9 0 0\n\
                  8 0 0 1 0\n9 0 0 1 0\n10 0 0 1 0\n11 11 0 1 0\n12 0 0 2 1\n13 8 2 0 0\n\
                  14 11 0 1 0\n15 11 1 2 0\n16 11 2 3 0\n17 9 2 3 0\n18 9 2 3 0\n19 6 0 0 0\n\
-                 20 0 0 1 0\n21 0 0 1 0\n22 0 0 1 0\n23 0 0 1 0\n24 0 0 1 0\n";
+                 20 0 0 1 0\n21 0 0 1 0\n22 0 0 1 0\n23 8 2 0 0\n24 8 2 0 0\n25 8 2 0 0\n\
+                 26 0 0 1 0\n27 0 0 1 0\n28 0 0 1 0\n29 0 0 1 0\n30 0 0 1 0\n31 0 0 1 0\n\
+                 32 0 0 1 0\n";
     assert_eq!(lines_of(&input), lines);
 }
 
@@ -866,19 +947,44 @@ fn change_lines() -> Vec<String> {
     lines
 }
 
-/// The probe's lines for the short fields after B: slot 8 with R 2 and shortfalls 0, 64 and 256; slot
-/// 7 without id 2, shortfalls 192 and 0; and slot 7 with it again, R 1 and shortfall 0. The starts are
-/// these shortfalls.
+/// The image after B with its schedule at slot 8: R 2 for id 2, and shortfalls 0, 64 and 256, which are
+/// the starts.
+const IMAGE_KEPT: &str = "000708004808000104000101000304020100014000010201020100b24001003b";
+
+/// The probe's lines for the short fields after B: slot 8 with R 2; slot 7 without id 2, shortfalls 192,
+/// 0 and 128; and slot 8 with it again, R 1 and shortfalls 0, 64 and 128. The starts are these.
 fn short_lines() -> Vec<String> {
-    let kept = "000708004808000104000101000304020100014000010201020100b24001003b";
-    let left = "0007070048070001040001010001c0000104030100b7c0003e";
-    let returned = "0007070048070001040001010001c00001040201000302010100b1c0003e";
+    let left = "0007070048070001040001010001c0000104030100078000afc0000380003a";
+    let returned = "0007080048080001040301000304010100014000010200010100018000b140000180003a";
     let answer = ANSWER_B.replace("1000010111000101", "10000100110000");
     let without = "1000010011000012000200001200020103";
+    let again = "10000100110000120002000312000201011200020200";
     vec![
-        format!("change 0 0 1 22 {kept} {answer}+209"),
+        format!("change 0 0 1 22 {IMAGE_KEPT} {answer}+209"),
         format!("change 0 0 1 17 {left} {without}+214"),
-        format!("change 0 0 1 22 {returned} {answer}+209"),
+        format!("change 0 0 1 22 {returned} {again}+209"),
+    ]
+}
+
+/// The probe's lines for the debts: slot 8 without id 2, which owes 256 (01 00 at the base and at the
+/// request slot), what is then asked, its standing, and the empty listing at 2,047 (07 ff) and beyond.
+fn debt_lines() -> Vec<String> {
+    let left = "0007080048080001040301000304020100014000040100b24001003b";
+    let (answer, without) = (
+        ANSWER_B.replace("1000010111000101", "10000100110000"),
+        "1000010011000012000200031200020102",
+    );
+    vec![
+        format!("change 0 0 1 17 {left} {without}+214"),
+        format!("change 8 2 0 0 {left} +231"),
+        format!("change 8 2 0 0 {left} +231"),
+        format!("change 0 0 1 22 {IMAGE_KEPT} {answer}+209"),
+        format!("change 8 2 0 0 {left} +231"),
+        "standing 10 0 0 0".to_string(),
+        "change 0 0 1 7 006107ff00b207ff003a 10000100110000+224".to_string(),
+        "change 1 0 0 0 00610800b308003b +231".to_string(),
+        "change 1 0 0 0 006107fe00b207ff003a +231".to_string(),
+        "change 1 0 0 0 006107ff00b207fe003a +231".to_string(),
     ]
 }
 
@@ -935,6 +1041,8 @@ fn probe_lines_of_the_cases() {
     assert!(others[2].ends_with("1200021e1e1200021f1f+64"));
     let (short, rest) = rest.split_at(3);
     assert_eq!(short, short_lines());
+    let (debts, rest) = rest.split_at(10);
+    assert_eq!(debts, debt_lines());
     let (areas, queries) = rest.split_at(7);
     assert_eq!(areas, area_lines());
     assert_eq!(queries, query_lines());
@@ -991,8 +1099,9 @@ fn a_seed_always_gives_the_same_stream() {
     assert!(stream(3).iter().all(|request| request.len() <= LONGEST_FRAME));
 }
 
-/// A start below 256 R, or 0 for an id that is not listed, and the largest excess of entitlement over
-/// supply in the windows that end at the base; the one of the whole transition counts from the start.
+/// A start below 256 R, or the shortfall for an id that is not listed, and the largest excess of
+/// entitlement over supply in the windows that end at the base; the one of the whole transition counts
+/// from the start.
 fn start_in_numbers(timetable: &Timetable, id: usize) -> bool {
     let Entry { period, bound, shortfall, .. } = timetable.entries[id];
     let (weight, start) = (256i64.checked_div(period.into()).unwrap_or(0), timetable.starts[id]);
@@ -1003,8 +1112,8 @@ fn start_in_numbers(timetable: &Timetable, id: usize) -> bool {
     };
     let within = (1..=transition.len()).map(excess);
     let reached = within.chain([i64::from(start) + excess(0)]).max();
-    let below = if period > 0 { start < 256 * u16::from(bound) } else { start == 0 };
-    below && reached == Some(shortfall.into())
+    let holds = if period > 0 { start < 256 * u16::from(bound) } else { start == shortfall };
+    holds && reached == Some(shortfall.into())
 }
 
 /// Soundness once more, clause by clause in numbers instead of slots.
@@ -1013,7 +1122,7 @@ pub(crate) fn sound_in_numbers(timetable: &Timetable) -> bool {
     let listed = |id: u8| id < 32 && timetable.entries[usize::from(id)].period > 0;
     let owner = |(slot, &id): (usize, &u8)| if slot < length { listed(id) } else { id == 0 };
     let entry = |entry: &Entry| match entry.period {
-        0 => (entry.offset, entry.bound, entry.shortfall) == (0, 0, 0),
+        0 => (entry.offset, entry.bound) == (0, 0) && entry.shortfall < 2048,
         period if period > 256 || 256 % period != 0 => false,
         period => {
             let reached =

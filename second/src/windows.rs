@@ -1,5 +1,5 @@
-//! Demand 3 (docs/RULES.md 1.6) by brute force: runs are recorded slot by slot and all their
-//! windows are looked at, each length tried is held against a search through all choices of
+//! Demand 3 (docs/RULES.md 1.6) by brute force: runs are recorded slot by slot and all their windows
+//! are looked at, across changes and absences back to slot 0; each length tried is held against a search through all choices of
 //! offsets, and each refusal for want of a schedule against these and whoever may get a slot. The R
 //! of a short field is the one that the requests before, as they were read, gave the id last.
 
@@ -16,12 +16,18 @@ use std::ops::Range;
 /// The slots that an offset choice is walked through from the base on.
 const LOOKED_AT: u64 = 512;
 
-/// One slot of a run: its owner, the listing in force, and where each present listing began.
+/// One slot of a run: its owner and the listing in force.
 #[derive(Clone)]
 struct Slot {
     owner: u8,
     listing: Listing,
-    since: [usize; IDS],
+}
+
+impl Slot {
+    /// An id's weight in the slot; none where it is not listed.
+    fn weight(&self, id: usize) -> i64 {
+        self.listing[id].map_or(0, |share| 256 / i64::from(share.period))
+    }
 }
 
 /// A run of a controller from the empty timetable, recorded slot by slot up to some slot, and what
@@ -29,7 +35,6 @@ struct Slot {
 pub(crate) struct Run {
     slots: Vec<Slot>,
     pub(crate) timetable: Timetable,
-    since: [usize; IDS],
     asked: Listing,
 }
 
@@ -37,7 +42,7 @@ impl Run {
     /// The run of an empty controller before its first slot.
     pub(crate) fn empty() -> Run {
         let timetable = Timetable::empty();
-        Run { slots: Vec::new(), timetable, since: [0; IDS], asked: [None; IDS] }
+        Run { slots: Vec::new(), timetable, asked: [None; IDS] }
     }
 
     /// What a request asks for each id: by a short field the R asked for last, unless the id was left
@@ -57,7 +62,7 @@ impl Run {
         for slot in self.slots.len()..end {
             let (number, owner) = owner_query(&self.timetable, slot as u64);
             assert_eq!(number, 0);
-            self.slots.push(Slot { owner, listing: self.timetable.listing(), since: self.since });
+            self.slots.push(Slot { owner, listing: self.timetable.listing() });
         }
     }
 
@@ -68,11 +73,6 @@ impl Run {
             let slot = outcome.timetable.request_slot as usize;
             self.record_to(slot);
             self.slots.truncate(slot);
-            for id in 0..IDS {
-                if !self.timetable.entries[id].listed() {
-                    self.since[id] = slot;
-                }
-            }
             self.timetable = outcome.timetable;
             self.asked =
                 read_request(record).map_or([None; IDS], |read| self.in_full(&read).listing);
@@ -81,21 +81,27 @@ impl Run {
         outcome
     }
 
-    /// The shortfall: the largest excess of entitlement over supply in the windows that end there.
-    fn excess(&self, id: usize, end: usize, since: usize) -> i64 {
+    /// An id's shortfall at a slot, listed or not: the largest excess of entitlement over supply in all
+    /// windows that end there, back to slot 0.
+    pub(crate) fn shortfall(&self, id: usize, slot: usize) -> i64 {
         let mut largest = 0;
         let mut excess = 0;
-        for slot in self.slots[since..end].iter().rev() {
-            excess += slot.listing[id].map_or(0, |share| 256 / i64::from(share.period));
-            excess -= if usize::from(slot.owner) == id { 256 } else { 0 };
+        for passed in self.slots[..slot].iter().rev() {
+            excess += passed.weight(id);
+            excess -= if usize::from(passed.owner) == id { 256 } else { 0 };
             largest = largest.max(excess);
         }
         largest
     }
 
-    /// A listed id's shortfall at a slot, by all windows since it was newly listed.
-    pub(crate) fn shortfall(&self, id: usize, slot: usize) -> i64 {
-        self.excess(id, slot, self.since[id])
+    /// The number of slots that are recorded.
+    pub(crate) fn end(&self) -> usize {
+        self.slots.len()
+    }
+
+    /// An id is listed in a slot.
+    pub(crate) fn lists(&self, id: usize, slot: usize) -> bool {
+        self.slots[slot].listing[id].is_some()
     }
 
     /// The recorded owner of a slot.
@@ -109,25 +115,44 @@ impl Run {
         self.slots[window].iter().filter(own).count() as u64
     }
 
-    /// In every window within a present listing the supply falls short by less than the bound.
-    fn check_windows(&self) -> u64 {
-        let mut windows = 0;
+    /// In every window in whose last slot an id is listed the supply falls short by less than the bound
+    /// there. How many windows there are, and how many across an absence.
+    fn check_windows(&self) -> [u64; 2] {
+        let mut windows = [0; 2];
         for end in 1..=self.slots.len() {
-            let last = &self.slots[end - 1];
-            for (id, share) in listed(&last.listing) {
-                let (mut supply, mut entitlement) = (0, 0);
-                for start in (last.since[id]..end).rev() {
-                    let slot = &self.slots[start];
-                    let weight = slot.listing[id].map(|share| 256 / i64::from(share.period));
-                    assert!(weight.is_some(), "listed throughout its present listing");
-                    entitlement += weight.unwrap_or(0);
-                    supply += if usize::from(slot.owner) == id { 1 } else { 0 };
-                    assert!(256 * supply + 256 * i64::from(share.bound) > entitlement);
-                    windows += 1;
-                }
+            for (id, share) in listed(&self.slots[end - 1].listing) {
+                let [all, absent] = self.check_windows_to(id, share, end);
+                windows = [windows[0] + all, windows[1] + absent];
             }
         }
         windows
+    }
+
+    /// The same of one id and one last slot.
+    fn check_windows_to(&self, id: usize, share: Share, end: usize) -> [u64; 2] {
+        let (mut supply, mut entitlement, mut absent, mut across) = (0, 0, false, 0);
+        for slot in self.slots[..end].iter().rev() {
+            entitlement += slot.weight(id);
+            supply += if usize::from(slot.owner) == id { 1 } else { 0 };
+            assert!(256 * supply + 256 * i64::from(share.bound) > entitlement);
+            across += u64::from(absent && slot.listing[id].is_some());
+            absent |= slot.listing[id].is_none();
+        }
+        [end as u64, across]
+    }
+
+    /// The kept shortfalls of every id, at the request slot and at the base, are those of all windows
+    /// that end there. How many of them are of ids that are not listed and owe something.
+    fn check_kept(&mut self) -> u32 {
+        let Timetable { request_slot, base, entries, starts, .. } = self.timetable;
+        self.record_to(base as usize);
+        let mut debts = 0;
+        for id in 0..IDS {
+            let kept = [starts[id], entries[id].shortfall].map(i64::from);
+            assert_eq!(kept, [request_slot, base].map(|slot| self.shortfall(id, slot as usize)));
+            debts += u32::from(!entries[id].listed() && kept[0] > 0);
+        }
+        debts
     }
 }
 
@@ -258,15 +283,21 @@ fn reached(request: &Request, at_request: Shortfalls) -> Vec<Reached> {
 }
 
 /// What was seen while requests were checked: 9 at place 0 and above; 11 where slot T would not be
-/// missed, and where it would; short fields of ids not listed, listed with R 1, and with R above 1.
+/// missed, and where it would; short fields of ids not listed, listed with R 1, and with R above 1; 8
+/// of listed ids, and of ids that return, by a full and by a short field; histories in which an id
+/// leaves in debt, and returns with it; ids that return in debt; kept debts of ids that are not listed;
+/// windows, and those across an absence.
 #[derive(Debug)]
 struct Seen {
     lengths: [u32; 65],
-    behind: u32,
+    behind: [u32; 3],
     missed: [u32; 2],
     exhausted: [u32; 2],
     short: [u32; 3],
-    windows: u64,
+    histories: [u32; 2],
+    returned: u32,
+    debts: u32,
+    windows: [u64; 2],
 }
 
 impl Seen {
@@ -274,11 +305,14 @@ impl Seen {
     fn nothing() -> Seen {
         Seen {
             lengths: [0; 65],
-            behind: 0,
+            behind: [0; 3],
             missed: [0; 2],
             exhausted: [0; 2],
             short: [0; 3],
-            windows: 0,
+            histories: [0; 2],
+            returned: 0,
+            debts: 0,
+            windows: [0; 2],
         }
     }
 
@@ -291,24 +325,35 @@ impl Seen {
             }
         }
     }
+
+    /// A refusal 8 is counted by the id that it names.
+    fn count_behind(&mut self, run: &Run, read: &ReadRequest, outcome: &Outcome) {
+        let id = outcome.place as usize;
+        let short = read.asks[id].is_some_and(|ask| ask.bound.is_none());
+        let class = if run.asked[id].is_some() { 0 } else { 1 + usize::from(short) };
+        self.behind[class] += 1;
+    }
+
+    /// All windows of a run.
+    fn count_windows(&mut self, run: &Run) {
+        let [all, across] = run.check_windows();
+        self.windows = [self.windows[0] + all, self.windows[1] + across];
+    }
 }
 
 /// A well-formed request's outcome from stage 8 on is what the definitions give.
 fn check_outcome(run: &Run, request: &Request, outcome: &Outcome, seen: &mut Seen) {
-    let end = request.slot as usize;
-    let mut shortfalls = [0; IDS];
-    for (id, _) in listed(&request.listing) {
-        if run.timetable.entries[id].listed() {
-            shortfalls[id] = run.excess(id, end, run.since[id]);
-            let standing = standing_query(&run.timetable, id as u8, request.slot);
-            assert_eq!((standing.0, i64::from(standing.1)), (0, shortfalls[id]));
-        }
+    let shortfalls: Shortfalls = std::array::from_fn(|id| run.shortfall(id, request.slot as usize));
+    for (id, owed) in shortfalls.into_iter().enumerate() {
+        let standing = standing_query(&run.timetable, id as u8, request.slot);
+        let listed = run.asked[id].is_some();
+        let told = if listed { (0, owed) } else { (10, 0) };
+        assert_eq!((standing.0, i64::from(standing.1)), told);
     }
     let over = listed(&request.listing)
         .find(|(id, share)| shortfalls[*id] >= 256 * i64::from(share.bound));
     if let Some((id, _)) = over {
         assert_eq!((outcome.number, outcome.place, outcome.tries), (8, id as u64, 0));
-        seen.behind += 1;
         return;
     }
     check_lengths(request, shortfalls, outcome, seen);
@@ -407,6 +452,11 @@ fn small_listing(random: &mut Random, present: &Listing) -> Listing {
         };
         listing[id] = if random.chance(5, 6) { Some(share) } else { None };
     }
+    fitting(listing)
+}
+
+/// A listing without those for whom the ids below leave no weight.
+fn fitting(mut listing: Listing) -> Listing {
     let mut free = 256;
     for place in &mut listing {
         let weight = place.map_or(0, |share| 256 / i64::from(share.period));
@@ -430,7 +480,7 @@ fn small_block(random: &mut Random) -> Listing {
 }
 
 /// The record of a request.
-fn record_of(request: &ReadRequest) -> Vec<u8> {
+pub(crate) fn record_of(request: &ReadRequest) -> Vec<u8> {
     let mut record = [slot_field(request.slot), longest_field(request.longest)].concat();
     for (id, ask) in request.asks.iter().enumerate() {
         let Some(Ask { period, bound }) = *ask else { continue };
@@ -457,13 +507,33 @@ fn small_bounds(present: &Listing) -> Listing {
     present.map(|share| share.map(|share| Share { bound: (share.bound - 1).max(1), ..share }))
 }
 
+/// The present listing without some.
+fn small_leaving(random: &mut Random, present: &Listing) -> Listing {
+    present.map(|share| share.filter(|_| random.chance(1, 2)))
+}
+
+/// The present listing with some who left in debt, mostly with the least R that bears it.
+fn small_returning(random: &mut Random, timetable: &Timetable) -> Listing {
+    let mut listing = timetable.listing();
+    for (place, entry) in listing.iter_mut().zip(timetable.entries) {
+        if !entry.listed() && entry.shortfall > 0 && random.chance(1, 2) {
+            let least = (entry.shortfall / 256) as u8 + 1;
+            let bound = random.pick(&[least, least, least + 1, 1]).unwrap_or(1).min(8);
+            *place = Some(Share { period: 1 << random.between(2, 5), bound });
+        }
+    }
+    fitting(listing)
+}
+
 /// A request for a run, of one of several shapes, some with short fields among the others.
 fn small_candidate(random: &mut Random, run: &Run) -> ReadRequest {
     let present = run.timetable.listing();
-    let listing = match random.below(10) {
+    let listing = match random.below(14) {
         0 => small_block(random),
         1 => small_bounds(&present),
         2..=5 => small_newcomer(random, &present),
+        6 => small_leaving(random, &present),
+        7..=9 => small_returning(random, &run.timetable),
         _ => small_listing(random, &present),
     };
     let most = random.pick(&[0, 3, 17]).unwrap_or(0);
@@ -477,53 +547,104 @@ fn small_candidate(random: &mut Random, run: &Run) -> ReadRequest {
     ReadRequest { slot, longest, asks }
 }
 
-/// A request for a run: any, or the one of many with the most tries. A refusal 8 is counted as two,
-/// and a slot missed at once as four.
+/// How many ids leave in debt, and how many return with it.
+fn moves_in_debt(before: &Timetable, after: &Timetable) -> [u32; 2] {
+    let moves = |was: bool, is: bool| {
+        let moved = |&id: &u8| (before.lists(id), after.lists(id)) == (was, is);
+        let owes = |&id: &u8| after.starts[usize::from(id)] > 0;
+        (0..IDS as u8).filter(moved).filter(owes).count() as u32
+    };
+    [moves(true, false), moves(false, true)]
+}
+
+/// What is looked for among many requests: most tries, where a refusal 8 is counted as two and a slot
+/// missed at once as four; who leaves in debt, who returns with it, or an 8 for that.
+fn small_worth(wanted: u64, before: &Timetable, outcome: &Outcome) -> u32 {
+    let [left, returned] = moves_in_debt(before, &outcome.timetable);
+    match (outcome.number, outcome.place) {
+        (0, _) if wanted == 0 && left > 0 => 100,
+        (0, _) if wanted == 1 && returned > 0 => 100,
+        (8, id) if wanted == 2 && !before.lists(id as u8) => 100,
+        (8, _) => 2,
+        (9, 0) => 4,
+        _ => u32::from(outcome.tries),
+    }
+}
+
+/// A request for a run: any, or the one of many with most of what is looked for.
 fn small_request(random: &mut Random, run: &Run) -> ReadRequest {
+    let wanted = random.below(6);
     let mut best = small_candidate(random, run);
     let mut most = 0;
     for _ in 0..random.pick(&[0, 30, 30, 30]).unwrap_or(0) {
         let request = small_candidate(random, run);
         let outcome = change(&run.timetable, &record_of(&request), &mut [0; AREA]);
-        let tries = match (outcome.number, outcome.place) {
-            (8, _) => 2,
-            (9, 0) => 4,
-            _ => outcome.tries,
-        };
-        if tries > most {
-            (best, most) = (request, tries);
+        let worth = small_worth(wanted, &run.timetable, &outcome);
+        if worth > most {
+            (best, most) = (request, worth);
         }
     }
     best
 }
 
-/// A random history is put to a controller, each outcome is checked, then all windows.
-fn check_history(seed: u64, seen: &mut Seen) {
+/// A random history of a small core: each request with the run that it meets, recorded up to its slot.
+pub(crate) fn small_history(seed: u64, mut each: impl FnMut(&mut Run, &ReadRequest)) -> Run {
     let mut random = Random::new(seed);
     let mut run = Run::empty();
     for _ in 0..random.between(2, 14) {
         let request = small_request(&mut random, &run);
         run.record_to(request.slot as usize);
-        let outcome = change(&run.timetable, &record_of(&request), &mut [0; AREA]);
-        seen.count_short(&run, &request);
-        check_outcome(&run, &run.in_full(&request), &outcome, seen);
-        assert_eq!(run.put(&record_of(&request)), outcome);
+        each(&mut run, &request);
     }
     run.record_to(run.timetable.base as usize + 40);
-    seen.windows += run.check_windows();
+    run
+}
+
+/// A request is put to a controller, its outcome is checked, and what is kept then. How many ids left in
+/// debt, and how many returned with it.
+fn check_request(run: &mut Run, request: &ReadRequest, seen: &mut Seen) -> [u32; 2] {
+    let before = run.timetable;
+    let outcome = change(&before, &record_of(request), &mut [0; AREA]);
+    seen.count_short(run, request);
+    check_outcome(run, &run.in_full(request), &outcome, seen);
+    if outcome.number == 8 {
+        seen.count_behind(run, request, &outcome);
+    }
+    assert_eq!(run.put(&record_of(request)), outcome);
+    if outcome.number != 0 {
+        return [0; 2];
+    }
+    seen.debts += run.check_kept();
+    moves_in_debt(&before, &run.timetable)
+}
+
+/// A random history is put to a controller, each outcome is checked, then all windows.
+fn check_history(seed: u64, seen: &mut Seen) {
+    let (mut left, mut returned) = (0, 0);
+    let run = small_history(seed, |run, request| {
+        let [leave, return_] = check_request(run, request, seen);
+        (left, returned) = (left + leave, returned + return_);
+    });
+    seen.histories[0] += u32::from(left > 0);
+    seen.histories[1] += u32::from(returned > 0);
+    seen.returned += returned;
+    seen.count_windows(&run);
 }
 
 /// Many histories on small cores, with enough transitions and refusals among them.
 #[test]
 fn histories_on_small_cores() {
     let mut seen = Seen::nothing();
-    for seed in 0..2500 {
+    for seed in 0..4000 {
         check_history(seed, &mut seen);
     }
     let longer: u32 = seen.lengths[2..].iter().sum();
     println!("{seen:?}");
     assert!(seen.lengths[0] > 1000 && seen.lengths[1] > 300 && longer > 200, "{seen:?}");
-    assert!(seen.behind > 100 && seen.missed.iter().all(|&times| times > 50), "{seen:?}");
+    assert!(seen.behind.iter().all(|&times| times > 100), "{seen:?}");
+    assert!(seen.histories[0] > 1500 && seen.histories[1] > 1000, "{seen:?}");
+    assert!(seen.returned > 2000 && seen.debts > 10_000, "{seen:?}");
+    assert!(seen.windows[1] > 500_000 && seen.missed.iter().all(|&times| times > 50), "{seen:?}");
     assert!(seen.exhausted.iter().all(|&times| times > 50), "{seen:?}");
     assert!(seen.short.iter().all(|&times| times > 1000), "{seen:?}");
 }
@@ -542,9 +663,9 @@ fn windows_of_generated_streams() {
             }
         }
         run.record_to(run.timetable.base as usize + 300);
-        seen.windows += run.check_windows();
+        seen.count_windows(&run);
     }
     println!("{seen:?}");
     let longer: u32 = seen.lengths[9..].iter().sum();
-    assert!(longer > 10 && seen.windows > 1_000_000, "{seen:?}");
+    assert!(longer > 10 && seen.windows.iter().all(|&windows| windows > 1_000_000), "{seen:?}");
 }
