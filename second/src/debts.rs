@@ -40,6 +40,15 @@ pub fn bear(timetable: &Timetable, request: &mut Request) {
     }
 }
 
+/// Each R of one who returns is one less, if it can be.
+pub fn fall_short(timetable: &Timetable, listing: &mut Listing) {
+    for (share, entry) in listing.iter_mut().zip(&timetable.entries) {
+        if let Some(share) = share.as_mut().filter(|_| !entry.listed()) {
+            share.bound = (share.bound - 1).max(1);
+        }
+    }
+}
+
 /// The whole slots that all ids owe are more than a quarter as many as the ids.
 pub fn much_is_owed(timetable: &Timetable) -> bool {
     let whole = |shortfall: u16| usize::from(shortfall) / CYCLE;

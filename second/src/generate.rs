@@ -3,7 +3,7 @@
 
 use crate::change::{bound_before, change, listed, Outcome, Request, AREA};
 use crate::damage::damaged;
-use crate::debts::{absent_in_debt, bear, lower, much_is_owed, slot_after_slices};
+use crate::debts::{absent_in_debt, bear, fall_short, lower, much_is_owed, slot_after_slices};
 use crate::numbers::{ACCEPTED, LENGTHS_EXHAUSTED, SHORTFALL_TOO_LARGE, SLOT_MISSED};
 use crate::queries::standing_query;
 use crate::random::Random;
@@ -18,6 +18,8 @@ use crate::working_off::worked_off;
 const CANDIDATES: usize = 40;
 /// How often what comes before an aim is made anew if it would be refused.
 const PREPARATIONS: usize = 6;
+/// The requests in a row in which debts are worked off.
+const WORKED_OFF: u64 = 32;
 /// The first slot of a stream, behind all slots of the cases.
 const FIRST_SLOT: u64 = 21;
 /// A huge jump takes at most one in so many of the slots left, less in long streams.
@@ -38,6 +40,13 @@ enum Aim {
     Exhausted,
     Kept,
     Scheduled,
+}
+
+impl Aim {
+    /// It is about short fields.
+    fn by_short(self) -> bool {
+        [Aim::Kept, Aim::Scheduled].contains(&self)
+    }
 }
 
 /// The ids that left and did not return so far, each with the slot that it left for and the R that it
@@ -73,7 +82,7 @@ impl Left {
 
 /// A stream of requests, with the timetable that holds after those given so far, the aim that waits
 /// for its block, the request that the desk puts again, the id that was left out just now with the
-/// period that it had, and those that left.
+/// period that it had, how many requests are left in which debts are worked off, and whether it begins.
 pub struct Generator {
     random: Random,
     timetable: Timetable,
@@ -83,8 +92,7 @@ pub struct Generator {
     pending: Option<Aim>,
     again: Option<Vec<u8>>,
     out: Option<(usize, u16)>,
-    left_with: Left,
-    spell: u64,
+    to_work_off: u64,
     begins: bool,
 }
 
@@ -106,8 +114,7 @@ impl Generator {
             pending: None,
             again: None,
             out: None,
-            left_with: Left::default(),
-            spell: 0,
+            to_work_off: 0,
             begins: false,
         }
     }
@@ -131,18 +138,23 @@ impl Generator {
         if let Some((id, period)) = self.out.take() {
             return self.back(id, period);
         }
-        if self.spell > 0 {
-            self.spell -= 1;
+        if self.to_work_off > 0 {
+            self.to_work_off -= 1;
             let request = worked_off(&mut self.random, &self.timetable);
             return self.record(&request);
         }
-        if much_is_owed(&self.timetable) && self.left > self.last_part && self.random.chance(1, 64)
-        {
-            self.spell = 32;
+        let much = much_is_owed(&self.timetable) && self.left > self.last_part;
+        if much && self.random.chance(1, 64) {
+            self.to_work_off = WORKED_OFF;
         }
         if let Some(aim) = self.pending.filter(|_| self.random.chance(3, 4)) {
             return self.aimed(aim);
         }
+        self.any()
+    }
+
+    /// A request of any kind.
+    fn any(&mut self) -> Vec<u8> {
         match self.random.below(150) {
             0..=33 => {
                 let request = self.any_change();
@@ -208,7 +220,7 @@ impl Generator {
         if self.random.chance(3, 4) {
             request.slot = self.timetable.base.min(LAST_SLOT);
         }
-        self.again(request)
+        self.asked_again(request)
     }
 
     /// Some that left in debt are asked for again, beside what is listed.
@@ -223,25 +235,18 @@ impl Generator {
         }
         self.fit(&mut listing);
         let request = self.request(listing);
-        self.again(request)
+        self.asked_again(request)
     }
 
     /// Who returns is asked for by a short field, with the least R that bears what it owes, or with one
     /// less.
-    fn again(&mut self, mut request: Request) -> Vec<u8> {
-        match self.random.below(10) {
-            0..=2 => (),
-            3..=5 => {
-                bear(&self.timetable, &mut request);
-                let returns = |id: &usize| !self.timetable.entries[*id].listed();
-                let shares = request.listing.iter_mut().enumerate();
-                for share in
-                    shares.filter(|(id, _)| returns(id)).filter_map(|(_, share)| share.as_mut())
-                {
-                    share.bound = (share.bound - 1).max(1);
-                }
-            }
-            _ => bear(&self.timetable, &mut request),
+    fn asked_again(&mut self, mut request: Request) -> Vec<u8> {
+        let choice = self.random.below(10);
+        if choice > 2 {
+            bear(&self.timetable, &mut request);
+        }
+        if (3..=5).contains(&choice) {
+            fall_short(&self.timetable, &mut request.listing);
         }
         self.short(&request)
     }
@@ -250,11 +255,10 @@ impl Generator {
     /// worked off, by a transition where several are urgent.
     fn eased(&mut self) -> Request {
         let mut request = self.request(self.timetable.listing());
-        request.slot = match self.random.chance(1, 2) {
-            true => slot_after_slices(&self.timetable),
-            false => {
-                self.slot_before_slices().saturating_add(self.random.between(1, 6)).min(LAST_SLOT)
-            }
+        request.slot = if self.random.chance(1, 2) {
+            slot_after_slices(&self.timetable)
+        } else {
+            self.slot_before_slices().saturating_add(self.random.between(1, 6)).min(LAST_SLOT)
         };
         request.longest = LONGEST_TRANSITION as u8;
         lower(&mut request.listing);
@@ -286,8 +290,10 @@ impl Generator {
             if self.meets(aim, &request) {
                 self.tighten(&mut request);
                 self.pending = None;
-                let by_short = [Aim::Kept, Aim::Scheduled].contains(&aim);
-                return if by_short { self.short(&request) } else { self.record(&request) };
+                return match aim.by_short() {
+                    true => self.short(&request),
+                    false => self.record(&request),
+                };
             }
         }
         self.unmet(aim)
@@ -307,44 +313,22 @@ impl Generator {
         self.record(&request)
     }
 
-    /// What is asked before an aim can be met.
+    /// What is asked before an aim can be met: R above 1 stays where it is to be kept.
     fn before(&mut self, aim: Aim, waited: bool) -> Request {
-        match aim {
-            _ if waited => {
-                let listing = self.full_core();
-                self.borne(listing)
-            }
-            Aim::Exhausted => {
-                let listing = self.pair();
-                self.borne(listing)
-            }
-            Aim::Scheduled => {
-                let mut listing = [None; IDS];
-                for _ in 0..self.random.between(1, 4) {
-                    self.add_patient(&mut listing);
-                }
-                for share in listing.iter_mut().flatten() {
-                    share.bound = 2;
-                }
-                let mut request = self.request(listing);
-                bear(&self.timetable, &mut request);
-                request
-            }
-            Aim::Kept => {
-                let listing = self.wide_core();
-                let mut request = self.request(listing);
-                bear(&self.timetable, &mut request);
-                request
-            }
-            Aim::Length(9.., _) => {
-                let listing = self.block(5);
-                self.borne(listing)
-            }
-            _ => {
-                let listing = self.block(3);
-                self.borne(listing)
-            }
+        let listing = match aim {
+            _ if waited => self.full_core(),
+            Aim::Exhausted => self.pair(),
+            Aim::Kept => self.wide_core(),
+            Aim::Scheduled => self.few_wide(),
+            Aim::Length(9.., _) => self.block(5),
+            _ => self.block(3),
+        };
+        if waited || !aim.by_short() {
+            return self.borne(listing);
         }
+        let mut request = self.request(listing);
+        bear(&self.timetable, &mut request);
+        request
     }
 
     /// Now and then T is set to the least from which on a larger one changes nothing, to one less,
@@ -590,17 +574,24 @@ impl Generator {
         listing
     }
 
-    /// The same with R above 1 for each, so that shortfalls may grow.
+    /// The same with R above 1 for each, mostly 2, so that shortfalls may grow.
     fn wide_core(&mut self) -> Listing {
         let mut listing = self.full_core();
         for share in listing.iter_mut().flatten() {
-            share.bound = if self.random.chance(7, 8) {
-                2
-            } else {
-                self.random.between(2, u64::from(LARGEST_BOUND)) as u8
-            };
+            let wide = !self.random.chance(7, 8);
+            share.bound =
+                if wide { self.random.between(2, u64::from(LARGEST_BOUND)) as u8 } else { 2 };
         }
         listing
+    }
+
+    /// A few that owe little, with R 2.
+    fn few_wide(&mut self) -> Listing {
+        let mut listing = [None; IDS];
+        for _ in 0..self.random.between(1, 4) {
+            self.add_patient(&mut listing);
+        }
+        listing.map(|share| share.map(|share| Share { bound: 2, ..share }))
     }
 
     /// Weights that sum to a little above 256, mostly from a full core.
@@ -821,7 +812,6 @@ impl Iterator for Generator {
         let request = self.make();
         self.left -= 1;
         let outcome = change(&self.timetable, &request, &mut [0; AREA]);
-        self.left_with.follow(&self.timetable, &outcome.timetable);
         self.timetable = outcome.timetable;
         let asked_again = match outcome.number {
             LENGTHS_EXHAUSTED => self.random.chance(3, 4),

@@ -6,7 +6,7 @@ use crate::built::listed_ids;
 use crate::change::Request;
 use crate::debts::{least_bound, owed_at};
 use crate::random::Random;
-use crate::timetable::{Share, Timetable, CYCLE, IDS, LAST_SLOT};
+use crate::timetable::{Share, Timetable, CYCLE, IDS, LARGEST_BOUND, LAST_SLOT};
 
 /// The next request of one who works debts off, by what is listed.
 pub fn worked_off(random: &mut Random, timetable: &Timetable) -> Request {
@@ -34,19 +34,20 @@ fn alone(timetable: &Timetable, id: usize, slot: u64) -> Request {
     Request { slot, longest: 0, listing }
 }
 
-/// The same where the id can wait for one slot, with an id that takes every slot behind the first.
+/// The same where the id can wait for one slot, with an id that takes every second slot from the next
+/// one on.
 fn served_early(random: &mut Random, timetable: &Timetable, id: usize) -> Request {
     let cycle = CYCLE as u64;
     let owed = |slot| owed_at(timetable, slot)[id];
-    let slots = timetable.base..timetable.base.saturating_add(2 * cycle).min(LAST_SLOT);
+    let mut slots = timetable.base..timetable.base.saturating_add(2 * cycle).min(LAST_SLOT);
     let waits = |slot: &u64| owed(*slot) % cycle as i64 == cycle as i64 - 2;
-    let slot = slots.clone().find(waits).unwrap_or(timetable.base);
+    let slot = slots.find(waits).unwrap_or(timetable.base);
     let mut request = alone(timetable, id, slot);
     let others: Vec<usize> = (0..IDS).filter(|&other| other != id).collect();
     let some = [(); 6].map(|()| random.pick(&others).unwrap_or(0));
     let further = |other: &usize| timetable.entries[*other].shortfall % CYCLE as u16;
     let other = some.into_iter().min_by_key(further).unwrap_or(0);
     let bound = least_bound(i64::from(timetable.entries[other].shortfall) + CYCLE as i64 / 2);
-    request.listing[other] = Some(Share { period: 2, bound: bound.min(8) });
+    request.listing[other] = Some(Share { period: 2, bound: bound.min(LARGEST_BOUND) });
     request
 }
