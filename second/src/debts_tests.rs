@@ -12,13 +12,19 @@ use crate::probes::Probes;
 use crate::queries::standing_query;
 use crate::random::Random;
 use crate::records::read_request;
+use crate::run::Run as Accepted;
 use crate::tests::{after_b, soundness};
 use crate::timetable::{Listing, Timetable, CYCLE, IDS, LAST_SLOT};
 use crate::windows::{record_of, small_history, Run};
 
-/// The shortfalls of an id at every recorded slot, each by all windows that end there.
-fn by_windows(run: &Run, id: usize) -> Vec<i64> {
-    (0..=run.end()).map(|slot| run.shortfall(id, slot)).collect()
+/// The shortfalls of an id at every recorded slot, as the timetables in force tell them: those of all
+/// windows that end there.
+fn told(run: &Run, accepted: &Accepted, id: usize) -> Vec<i64> {
+    let told = |slot: u64| owed_at(&accepted.in_force(slot), slot)[id];
+    let owed: Vec<i64> = (0..=run.end() as u64).map(told).collect();
+    let by_windows: Vec<i64> = (0..=run.end()).map(|slot| run.shortfall(id, slot)).collect();
+    assert_eq!(owed, by_windows, "{id}");
+    owed
 }
 
 /// What was seen of shortfalls over windows: those that fall, those that fall by half of 256 or more for
@@ -32,8 +38,7 @@ struct Fallen {
 }
 
 /// From a window's first slot to its end an id's shortfall falls by at most 256 for each own slot.
-fn check_fall(run: &Run, id: usize, seen: &mut Fallen) {
-    let owed = by_windows(run, id);
+fn check_fall(run: &Run, owed: &[i64], id: usize, seen: &mut Fallen) {
     for from in 0..owed.len() {
         let mut supply = 0;
         for to in from + 1..owed.len() {
@@ -47,8 +52,7 @@ fn check_fall(run: &Run, id: usize, seen: &mut Fallen) {
 }
 
 /// In a slot in which an id is not listed its shortfall stays.
-fn check_absences(run: &Run, id: usize, seen: &mut Fallen) {
-    let owed = by_windows(run, id);
+fn check_absences(run: &Run, owed: &[i64], id: usize, seen: &mut Fallen) {
     for slot in (0..run.end()).filter(|&slot| !run.lists(id, slot)) {
         assert_eq!(owed[slot], owed[slot + 1], "{id} at {slot}");
         seen.absent += u64::from(owed[slot] > 0);
@@ -62,12 +66,15 @@ fn check_absences(run: &Run, id: usize, seen: &mut Fallen) {
 fn a_debt_falls_by_own_slots_alone() {
     let mut seen = Fallen::default();
     for seed in 5000..5250 {
+        let mut accepted = Accepted::empty();
         let run = small_history(seed, |run, request| {
+            accepted = accepted.after(&record_of(request));
             run.put(&record_of(request));
         });
         for id in [0, 1, 2, 3, 7, 8, 30, 31] {
-            check_fall(&run, id, &mut seen);
-            check_absences(&run, id, &mut seen);
+            let owed = told(&run, &accepted, id);
+            check_fall(&run, &owed, id, &mut seen);
+            check_absences(&run, &owed, id, &mut seen);
         }
     }
     assert!(seen.windows > 200_000 && seen.most > 20_000, "{seen:?}");
