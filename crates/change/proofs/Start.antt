@@ -22,7 +22,7 @@ use Rattle.slots.specs.declared.CoreSlot.{CoreSlot}
 use Rattle.slots.specs.Limits.{IDS, LONGEST, WHOLE, LARGEST-BOUND}
 use Rattle.timetable.proofs.Entries.{length-each, each-at}
 use Rattle.timetable.proofs.Ranges.{Period, InRange, period-pos}
-use Rattle.timetable.proofs.Since.{owes-small}
+use Rattle.timetable.proofs.Since.{shortfall-below}
 use Rattle.timetable.proofs.Sound.{Absent, Ranged, Sound}
 use Rattle.timetable.specs.declared.Entry.{Entry}
 use Rattle.timetable.specs.declared.Timetable.{Timetable}
@@ -95,7 +95,7 @@ module _ (t : Timetable) (slot : CoreSlot) (asks : List Ask) where
   start-ranged before later r n = record { listed = listed; absent = absent }
     where
       absent : (i : ℕ) → i < IDS → isListed (entryOf (startEntries t slot asks) i) ≡ false → Absent (entryOf (startEntries t slot asks) i)
-      absent i k l = subst Absent (sym (start-absent i k l)) (record { zero = refl; below = owes-small t before i k slot later })
+      absent i k l = subst Absent (sym (start-absent i k l)) (record { zero = refl; below = shortfall-below t before i k slot later })
 
       es : List Entry
       es = startEntries t slot asks

@@ -102,7 +102,7 @@ module _ (e : Entry) (inside : e .offset < e .period) where
       let k : suc (e .offset + (n - e .offset - 1)) ≡ n = omega arith in
       rw k at (slices-past (n - e .offset - 1))
 
--- What it owes.
+-- What it is owed.
 module _ (e : Entry) (whole : e .period * weight e ≡ WHOLE) (inside : e .offset < e .period) where
   -- A listed entry's weight is above 0.
   pub weight-pos : 0 < weight e

@@ -117,8 +117,8 @@ module _ (t : Timetable) (s : Sound t) (i : ℕ) where
       sym (shortfall-cycle k (coreSlot (t .base .0)) (omega arith)) ∙ ap (shortfallAfter e) z
 
   -- From the base on every id's shortfall, listed or not, is below 256 x 8.
-  pub owes-small : i < IDS → (x : CoreSlot) → t .base .0 ≤ x .0 → shortfallAt t i x < WHOLE * LARGEST-BOUND
-  owes-small k x b = at (isListed e) refl
+  pub shortfall-below : i < IDS → (x : CoreSlot) → t .base .0 ≤ x .0 → shortfallAt t i x < WHOLE * LARGEST-BOUND
+  shortfall-below k x b = at (isListed e) refl
     where
       n : ℕ
       n = x .0 - t .base .0

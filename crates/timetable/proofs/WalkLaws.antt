@@ -1,4 +1,4 @@
--- The pass of the soundness test over the transition's owners: what each id would owe at the base without the slots left, slot by slot. Assumes nothing.
+-- The pass of the soundness test over the transition's owners: what each id would be owed at the base without the slots left, slot by slot. Assumes nothing.
 use borrow.Author.Tests.{eq-eqb, eqb-true, ltb-true, ne-eqb}
 use lib.Dec.{eqb}
 use lib.ListN.{getD, length, length-set, set}
@@ -130,7 +130,7 @@ module _ (t : Timetable) (i : ℕ) where
     unfolding owedAt
     rest-le = omega (arith, rest-next)
 
-    -- Slot n is taken off what its owner would owe,
+    -- Slot n is taken off what its owner would be owed,
     pub owed-own : i ≡ getD (t .owners) n 0 → owedAt t i (suc n) ≡ owedAt t i n - rest n - WHOLE + rest n
     unfolding owedAt transitionShortfall overSlot
     owed-own o = rw (eq-eqb i (getD (t .owners) n 0) o) (omega (arith, rest-next, same-rest))
@@ -186,7 +186,7 @@ owed-tells t n owed a b h =
 
 -- ---- before the first slot
 
--- What each id would owe, once it is put in for all.
+-- What each id would be owed, once it is put in for all.
 pub unserved-is : (t : Timetable) (i v : ℕ) → v ≡ weight (entryOf (t .entries) i) → startOf t i + v * t .length ≡ owedAt t i 0
 unserved-is t i v p = ap (λ (x : ℕ). startOf t i + x * t .length) p ∙ sym (owed-start t i)
 

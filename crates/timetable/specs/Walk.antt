@@ -15,7 +15,7 @@ pub record Walkable (t : Timetable) : Type 0 where
   pub owners : ownersListed t ≡ true
   pub entries : entriesInRange (t .entries) ≡ true
 
--- What id i would owe at the base after n transition slots, if none of the slots left were its own.
+-- What id i would be owed at the base after n transition slots, if none of the slots left were its own.
 unfoldable pub owedAt : Timetable → ℕ → ℕ → ℕ
 owedAt t i n =
     let w : ℕ = weight (entryOf (t .entries) i) in
@@ -26,7 +26,7 @@ pub record Owed (t : Timetable) (n : ℕ) (owed : List ℕ) : Type 0 where
   pub count : length owed ≡ IDS
   pub each : (i : ℕ) → i < IDS → getD owed i 0 ≡ owedAt t i n
 
--- The starts are taken: the answer is whether each is in range, and if so the list holds what each id would owe before the first transition slot.
+-- The starts are taken: the answer is whether each is in range, and if so the list holds what each id would be owed before the first transition slot.
 pub record StartsTaken (t : Timetable) (answer : Bool) (owed : List ℕ) : Type 0 where
   pub in-range : answer ≡ startsInRange t
   pub unserved : answer ≡ true → Owed t 0 owed

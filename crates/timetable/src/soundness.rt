@@ -104,7 +104,7 @@ impl Timetable {
         self.walk_arrives(owed)
     }
 
-    // Each listed id's start is below 256 R, and every other one is the shortfall at the base. Then what each would owe at the base if no transition slot were its own is put in: the start, and the weight for each slot.
+    // Each listed id's start is below 256 R, and every other one is the shortfall at the base. Then what each would be owed at the base if no transition slot were its own is put in: the start, and the weight for each slot.
     fn take_starts(self, owed: &mut [u16; Timetable::IDS]) -> bool
         requires { ⌜ Walkable self × (length (now owed) ≡ IDS) ⌝ }
         ensures { λ r. ⌜ StartsTaken self r (now (owed .exit)) ⌝ }
@@ -123,7 +123,7 @@ impl Timetable {
         true
     }
 
-    // Walking the transition from the starts gives the shortfalls at the base, in one pass over the owners: each slot is taken off what its owner would owe at the base without the slots left.
+    // Walking the transition from the starts gives the shortfalls at the base, in one pass over the owners: each slot is taken off what its owner would be owed at the base without the slots left.
     fn walk_arrives(self, unserved: [u16; Timetable::IDS]) -> bool
         requires { ⌜ Walkable self × (startsInRange self ≡ true) × Owed self 0 unserved ⌝ }
         ensures { λ r. ⌜ r ≡ walkArrives self ⌝ }

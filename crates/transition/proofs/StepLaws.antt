@@ -130,7 +130,7 @@ missed-is es u b h = ap not h
 pub over-as : (e : Entry) (own : Bool) (w s : ℕ) → w ≡ weight e → s ≡ overSlot own w (e .shortfall) → withShortfall s e ≡ overEntry own e
 over-as e own w s k p = ap (λ (x : ℕ). withShortfall x e) (p ∙ ap (λ (x : ℕ). overSlot own x (e .shortfall)) k)
 
--- An entry in range owes less than 256 x 8.
+-- An entry in range is owed less than 256 x 8.
 pub owes-less : (es : List Entry) → entriesInRange es ≡ true → (i : ℕ) → i < IDS → entryOf es i .shortfall < WHOLE * LARGEST-BOUND
 owes-less es h i k = at (decided (isListed (entryOf es i))) (ranged-from es h)
   where

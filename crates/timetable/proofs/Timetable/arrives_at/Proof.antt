@@ -1,4 +1,4 @@
--- `arrives_at` meets its contract: the loop's invariant is that each id below `id` owes its shortfall at the base. Assumes nothing.
+-- `arrives_at` meets its contract: the loop's invariant is that each id below `id` is owed its shortfall at the base. Assumes nothing.
 use borrow.Author.Needs.{needs}
 use borrow.Author.Tests.{eq-eqb, ne-eqb}
 use lib.Dec.{eqb}

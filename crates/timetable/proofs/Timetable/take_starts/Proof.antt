@@ -1,4 +1,4 @@
--- `take_starts` meets its contract: the loop's invariant is that the start of each id below `id` is in range, and that what it would owe is put in.
+-- `take_starts` meets its contract: the loop's invariant is that the start of each id below `id` is in range, and that what it would be owed is put in.
 -- Assumes nothing.
 use borrow.Author.Needs.{needs}
 use mathlib.Core.Bool.{true}

@@ -1,4 +1,4 @@
--- `walk_arrives` meets its contract: the loop's invariant is what each id would owe at the base after `n` transition slots, without those left.
+-- `walk_arrives` meets its contract: the loop's invariant is what each id would be owed at the base after `n` transition slots, without those left.
 -- Assumes nothing.
 use borrow.Author.Needs.{needs}
 use lib.ListN.{getD, length}
