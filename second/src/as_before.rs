@@ -162,7 +162,7 @@ fn a_refused_request_forgets_nothing() {
 }
 
 /// The R of one that left is forgotten: at the same slot or later it returns with R 1, and R 2 in full
-/// is R 2; what it owes is kept. Where that is a whole slot, R 1 is refused 8.
+/// is R 2; what it is owed is kept. Where that is a whole slot, R 1 is refused 8.
 #[test]
 fn the_r_of_one_that_left() {
     let b = after_b();
@@ -199,7 +199,7 @@ fn case_e_with_a_short_field() {
 /// Rules 2 to 4 go by the R as before. Ids 0 and 1 as in A, and id 2 with period 256 and R 2, which
 /// gets offset 253. At slot 6 its shortfall is 6, and it is asked for with period 2 by a short field.
 /// At length 0 it takes the odd slots, id 1 slot 0, and id 0, last offset 1, finds none. Slot 6 goes
-/// to id 1, with room 0; then id 2 owes 134 and has room 2, so that it takes the odd slots again, and
+/// to id 1, with room 0; then id 2 is owed 134 and has room 2, so that it takes the odd slots again, and
 /// ids 0 and 1 slots 0 and 2. With R 1 it has room 0 there and takes slot 0, which id 0 needs.
 #[test]
 fn a_transition_by_the_r_as_before() {

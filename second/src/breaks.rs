@@ -305,7 +305,7 @@ fn unlisted(random: &mut Random, timetable: &mut Timetable) {
     }
 }
 
-/// An unlisted id owes exactly 2,048 at the request slot and at the base, one less, or more.
+/// An unlisted id is owed exactly 2,048 at the request slot and at the base, one less, or more.
 fn debt(random: &mut Random, timetable: &mut Timetable) {
     let id = some_unlisted(random, timetable);
     let debt = match random.below(8) {

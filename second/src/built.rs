@@ -36,7 +36,7 @@ pub fn built_with_transition(random: &mut Random) -> Timetable {
     timetable
 }
 
-/// Some ids that are not listed owe something, now and then as much as there is.
+/// Some ids that are not listed are owed something, now and then as much as there is.
 fn any_debts(random: &mut Random, timetable: &mut Timetable) {
     let part = random.pick(&[0, 1, 1, 4]).unwrap_or(0);
     for id in unlisted_ids(timetable) {
@@ -48,7 +48,7 @@ fn any_debts(random: &mut Random, timetable: &mut Timetable) {
     }
 }
 
-/// An id that is not listed owes so much, at the request slot and at the base.
+/// An id that is not listed is owed so much, at the request slot and at the base.
 pub fn owe(timetable: &mut Timetable, id: usize, debt: u16) {
     timetable.entries[id] = Entry { shortfall: debt, ..Entry::default() };
     timetable.starts[id] = debt;
@@ -209,7 +209,7 @@ pub fn match_base(timetable: &mut Timetable) {
     timetable.base = timetable.request_slot.wrapping_add(u64::from(timetable.length));
 }
 
-/// No other partition is listed, each owes what it started with, and the whole transition is the given
+/// No other partition is listed, each is owed what it started with, and the whole transition is the given
 /// one's.
 pub fn alone(timetable: &mut Timetable, id: usize) {
     for other in (0..IDS).filter(|&other| other != id) {

@@ -101,8 +101,8 @@ pub fn requests() -> Vec<Vec<u8>> {
     requests
 }
 
-/// Ids 1 and 2 work off the 64 and the 256 that they owe at slot 8. Id 0 takes slot 9, so that id 2 has
-/// slot 8 though it could wait; at slot 9 it owes 128, so that it has that slot too with R 1. Then id 0
+/// Ids 1 and 2 work off the 64 and the 256 that they are owed at slot 8. Id 0 takes slot 9, so that id 2 has
+/// slot 8 though it could wait; at slot 9 it is owed 128, so that it has that slot too with R 1. Then id 0
 /// has slot 10, and id 1 slot 13.
 fn worked_off() -> Vec<Vec<u8>> {
     vec![
@@ -154,8 +154,8 @@ fn short_fields() -> Vec<Vec<u8>> {
     ]
 }
 
-/// After B: id 2 is left out at slot 8, where it owes 256, and asked for at slot 8 and at slot 20; and
-/// the empty listing where id 2 is not listed and owes 2,047, 2,048, or two amounts.
+/// After B: id 2 is left out at slot 8, where it is owed 256, and asked for at slot 8 and at slot 20; and
+/// the empty listing where id 2 is not listed and is owed 2,047, 2,048, or two amounts.
 fn debts() -> Vec<Vec<u8>> {
     let b = [request_a(), request_b(6, 1)];
     let left = after(&[&b[..], &[request_left(8, 0)]].concat());
@@ -170,7 +170,7 @@ fn debts() -> Vec<Vec<u8>> {
     probes
 }
 
-/// The empty timetable with what id 2, which is not listed, owes at the request slot and at the base.
+/// The empty timetable with what id 2, which is not listed, is owed at the request slot and at the base.
 pub fn in_debt(start: u16, shortfall: u16) -> Timetable {
     let mut timetable = Timetable::empty();
     (timetable.starts[2], timetable.entries[2].shortfall) = (start, shortfall);

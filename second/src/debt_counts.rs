@@ -56,13 +56,13 @@ impl DebtCounts {
         }
     }
 
-    /// The ids that were listed and are not, and owe something.
+    /// The ids that were listed and are not, and are owed something.
     fn count_left(&mut self, before: &Timetable, after: &Timetable) {
         let left = |&id: &usize| before.entries[id].listed();
         self.ids[0] += absent_in_debt(after).into_iter().filter(left).count() as u64;
     }
 
-    /// The ids that were not listed and are, and owe something.
+    /// The ids that were not listed and are, and are owed something.
     fn count_returned(&mut self, timetable: &Timetable, left: &Left, request: &Request) {
         let returns = |&id: &usize| request.listing[id].is_some();
         for id in absent_in_debt(timetable).into_iter().filter(returns) {

@@ -1,18 +1,18 @@
-//! What ids owe, listed or not: the least R that bears it, and slots at which little is owed.
+//! What ids are owed, listed or not: the least R that bears it, and slots at which little is owed.
 
 use crate::built::listed_ids;
 use crate::change::Request;
 use crate::slots::{Shortfalls, Walk};
 use crate::timetable::{Listing, Timetable, CYCLE, IDS, LAST_SLOT};
 
-/// What each id owes at a slot from the request slot on.
+/// What each id is owed at a slot from the request slot on.
 pub fn owed_at(timetable: &Timetable, slot: u64) -> Shortfalls {
     let mut walk = Walk::from_request_slot(timetable);
     walk.pass(slot.saturating_sub(timetable.request_slot));
     walk.shortfalls
 }
 
-/// The ids that are not listed and owe something.
+/// The ids that are not listed and are owed something.
 pub fn absent_in_debt(timetable: &Timetable) -> Vec<usize> {
     let entries = &timetable.entries;
     (0..IDS).filter(|&id| !entries[id].listed() && entries[id].shortfall > 0).collect()
@@ -30,7 +30,7 @@ pub fn lower(listing: &mut Listing) {
     }
 }
 
-/// Each R is at least the one that bears what its id owes at the request slot.
+/// Each R is at least the one that bears what its id is owed at the request slot.
 pub fn bear(timetable: &Timetable, request: &mut Request) {
     let owed = owed_at(timetable, request.slot);
     for (share, owed) in request.listing.iter_mut().zip(owed) {
@@ -49,13 +49,13 @@ pub fn fall_short(timetable: &Timetable, listing: &mut Listing) {
     }
 }
 
-/// The whole slots that all ids owe are more than a quarter as many as the ids.
+/// The whole slots that all ids are owed are more than a quarter as many as the ids.
 pub fn much_is_owed(timetable: &Timetable) -> bool {
     let whole = |shortfall: u16| usize::from(shortfall) / CYCLE;
     timetable.entries.iter().map(|entry| whole(entry.shortfall)).sum::<usize>() > IDS / 4
 }
 
-/// A slot of the first cycle from the base on at which what is listed owes least.
+/// A slot of the first cycle from the base on at which what is listed is owed least.
 pub fn slot_after_slices(timetable: &Timetable) -> u64 {
     let ids = listed_ids(timetable);
     let mut walk = Walk::from_request_slot(timetable);

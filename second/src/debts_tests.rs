@@ -1,5 +1,5 @@
 //! A debt is worked off, not dropped (docs/RULES.md 1.12), by all windows of recorded runs; what an id
-//! that is not listed may owe (3.10, 3.13); who is refused 8 for it (1.10); and how often the stored
+//! that is not listed may be owed (3.10, 3.13); who is refused 8 for it (1.10); and how often the stored
 //! streams have it.
 
 use crate::built::{owe, unlisted_ids};
@@ -174,7 +174,7 @@ fn returns_later(random: &mut Random, left: &Timetable, slot: u64) -> u32 {
     u32::from(owed > 0)
 }
 
-/// 3.10 and 3.13: an id that is not listed owes at most 2,047, and the same at the request slot and at
+/// 3.10 and 3.13: an id that is not listed is owed at most 2,047, and the same at the request slot and at
 /// the base; it has no offset and no bound. That is so with a transition and without.
 #[test]
 fn what_an_absent_id_may_owe() {
@@ -226,7 +226,7 @@ fn eight_names_the_lowest_id_listed_or_not() {
     assert_eq!(told(&[(2, 1, 2), (5, 3, 1), (9, 3, 1)]), (8, 5));
     assert_eq!(told(&[(2, 1, 2), (5, 3, 2), (9, 3, 7)]), (8, 9));
     assert_eq!(told(&[(2, 1, 2), (5, 3, 2), (9, 3, 8)]).0, 0);
-    // One who returns and does not owe is not named.
+    // One who returns and is owed nothing is not named.
     assert_eq!(told(&[(6, 3, 1), (9, 3, 7)]), (8, 9));
 }
 

@@ -338,7 +338,7 @@ fn add_words(figures: &mut Figures) {
     figures.cell(section, "run", run);
 }
 
-/// "Words": an id that leaves and returns, its absence, and what it owes.
+/// "Words": an id that leaves and returns, its absence, and what it is owed.
 fn add_listing(figures: &mut Figures) {
     let section = "Words";
     let (run, base) = (run_b(), run_b().present().base);

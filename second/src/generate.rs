@@ -238,7 +238,7 @@ impl Generator {
         self.asked_again(request)
     }
 
-    /// Who returns is asked for by a short field, with the least R that bears what it owes, or with one
+    /// Who returns is asked for by a short field, with the least R that bears what it is owed, or with one
     /// less.
     fn asked_again(&mut self, mut request: Request) -> Vec<u8> {
         let choice = self.random.below(10);
@@ -517,7 +517,7 @@ impl Generator {
     }
 
     /// A block of ids with one long period and the least bounds, which the placement sets side by side;
-    /// now and then rather of those that owe more, so that they work it off.
+    /// now and then rather of those that are owed more, so that they work it off.
     fn block(&mut self, least: u64) -> Listing {
         let mut listing = [None; IDS];
         let k = self.random.between(least, 7);
@@ -585,7 +585,7 @@ impl Generator {
         listing
     }
 
-    /// A few that owe little, with R 2.
+    /// A few that are owed little, with R 2.
     fn few_wide(&mut self) -> Listing {
         let mut listing = [None; IDS];
         for _ in 0..self.random.between(1, 4) {
@@ -633,7 +633,7 @@ impl Generator {
         }
     }
 
-    /// One more share with any bound for an id that is not listed, that of some which owes least, and
+    /// One more share with any bound for an id that is not listed, that of some which is owed least, and
     /// lighter, so that it can wait.
     fn add_patient(&mut self, listing: &mut Listing) {
         let (bound, further) =
@@ -682,7 +682,7 @@ impl Generator {
         }
     }
 
-    /// A request for a listing in which each R bears what its id owes, mostly as the least one; now and
+    /// A request for a listing in which each R bears what its id is owed, mostly as the least one; now and
     /// then some do not.
     fn borne(&mut self, listing: Listing) -> Request {
         let mut request = self.request(listing);

@@ -140,13 +140,13 @@ fn case_d_with_a_short_field() {
     assert_eq!(area, bytes);
 }
 
-/// An entry that is not listed, of an id that owes so much.
+/// An entry that is not listed, of an id that is owed so much.
 fn owing(shortfall: u16) -> Entry {
     Entry { shortfall, ..Entry::default() }
 }
 
-/// 11.3: at slot 7 id 2, which owes 128, is left out: id 0, with room 0, takes slot 0, and id 1 slot 3.
-/// It returns at slot 8 by a short field, with R 1, and still owes 128: its last offset is 0, so it
+/// 11.3: at slot 7 id 2, which is owed 128, is left out: id 0, with room 0, takes slot 0, and id 1 slot 3.
+/// It returns at slot 8 by a short field, with R 1, and is still owed 128: its last offset is 0, so it
 /// takes the even slots, id 1 slot 1 and id 0 slot 3.
 #[test]
 fn leaving_and_returning_with_a_short_field() {
@@ -163,8 +163,8 @@ fn leaving_and_returning_with_a_short_field() {
     refused(&left, &request_short(7, 64), 9, 0, 1);
 }
 
-/// 11.5: id 2 leaves at slot 8, where it owes 256. With R 1, in full or by a short field, it does not
-/// return at slot 8 nor after twelve slots; with R 2 it does, and owes what it owed.
+/// 11.5: id 2 leaves at slot 8, where it is owed 256. With R 1, in full or by a short field, it does not
+/// return at slot 8 nor after twelve slots; with R 2 it does, and is owed what it was.
 #[test]
 fn a_debt_across_an_absence() {
     let left = accepted(&after_b(), &request_left(8, 0), 1);
@@ -184,7 +184,7 @@ fn a_debt_across_an_absence() {
     assert_eq!((later.starts[2], later.entries[2].shortfall), (256, 256));
 }
 
-/// 11.5: from the empty timetable with what id 2 owes at the request slot and at the base.
+/// 11.5: from the empty timetable with what id 2 is owed at the request slot and at the base.
 #[test]
 fn the_largest_debt() {
     let kept = accepted(&cases::in_debt(2047, 2047), &record(9, 0, &[]), 1);
@@ -474,7 +474,7 @@ fn seven_names_the_id_where_the_running_sum_passes() {
 }
 
 /// One that leaves and returns in one slot comes to the same as one that stays; one that returns later
-/// owes what it owed, however many slots have passed.
+/// is owed what it was, however many slots have passed.
 #[test]
 fn a_partition_returns_with_its_debt() {
     let a = after_a();
@@ -966,7 +966,7 @@ fn short_lines() -> Vec<String> {
     ]
 }
 
-/// The probe's lines for the debts: slot 8 without id 2, which owes 256 (01 00 at the base and at the
+/// The probe's lines for the debts: slot 8 without id 2, which is owed 256 (01 00 at the base and at the
 /// request slot), what is then asked, its standing, and the empty listing at 2,047 (07 ff) and beyond.
 fn debt_lines() -> Vec<String> {
     let left = "0007080048080001040301000304020100014000040100b24001003b";

@@ -42,7 +42,7 @@ fn serve(timetable: &mut Timetable, id: usize, start: u16) {
     match_base(timetable);
 }
 
-/// An id that is not listed owes something else at the request slot than at the base: one more or
+/// An id that is not listed is owed something else at the request slot than at the base: one more or
 /// less, a whole slot, or any; now and then a transition slot takes that off.
 pub fn unlisted_start(random: &mut Random, timetable: &mut Timetable) {
     let id = some_unlisted(random, timetable);

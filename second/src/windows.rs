@@ -1,7 +1,8 @@
 //! Demand 3 (docs/RULES.md 1.6) by brute force: runs are recorded slot by slot and all their windows
-//! are looked at, across changes and absences back to slot 0; each length tried is held against a search through all choices of
-//! offsets, and each refusal for want of a schedule against these and whoever may get a slot. The R
-//! of a short field is the one that the requests before, as they were read, gave the id last.
+//! are looked at, across changes and absences back to slot 0; each length tried is held against a
+//! search through all choices of offsets, and each refusal for want of a schedule against these and
+//! whoever may get a slot. The R of a short field is the one that the requests before, as they were
+//! read, gave the id last.
 
 use crate::change::{change, listed, Outcome, Request, AREA};
 use crate::generate::Generator;
@@ -142,7 +143,7 @@ impl Run {
     }
 
     /// The kept shortfalls of every id, at the request slot and at the base, are those of all windows
-    /// that end there. How many of them are of ids that are not listed and owe something.
+    /// that end there. How many of them are of ids that are not listed and are owed something.
     fn check_kept(&mut self) -> u32 {
         let Timetable { request_slot, base, entries, starts, .. } = self.timetable;
         self.record_to(base as usize);

@@ -1,5 +1,5 @@
 //! How a debt is worked off: an id of the longest period is listed alone with the least R that bears
-//! what it owes; where it can wait for one slot more, another id takes that slot, so that it is served
+//! what it is owed; where it can wait for one slot more, another id takes that slot, so that it is served
 //! one slot early; and the slot behind it is asked for at once with an R that is one less.
 
 use crate::built::listed_ids;
@@ -25,7 +25,7 @@ pub fn worked_off(random: &mut Random, timetable: &Timetable) -> Request {
     }
 }
 
-/// An id alone, with the longest period and the least R that bears what it owes.
+/// An id alone, with the longest period and the least R that bears what it is owed.
 fn alone(timetable: &Timetable, id: usize, slot: u64) -> Request {
     let slot = slot.min(LAST_SLOT);
     let mut listing = [None; IDS];
