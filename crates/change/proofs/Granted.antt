@@ -9,6 +9,7 @@ use native.Mathlib.Omega.{arith}
 use Prim.Native.Nat.{ℕ, zero, suc, _+_, _-_, _*_, _≤_, _<_}
 use Rattle.change.proofs.Answers.{acceptedAs, admitted, admitted-fit}
 use Rattle.change.proofs.AsBefore.{short-behind}
+use Rattle.change.proofs.GivenLaws.{at-request}
 use Rattle.change.proofs.Stages.{stages}
 use Rattle.change.proofs.Start.{start-at}
 use Rattle.change.specs.Change.{answer, answerOf, answerTo, numberOf, placeOf, refuse, searchOf, startPlan, timetableOf}
@@ -27,9 +28,10 @@ use Rattle.records.specs.declared.Request.{Request}
 use Rattle.records.specs.Request.{askOf, readRequest}
 use Rattle.slots.proofs.Below.{true-false}
 use Rattle.slots.specs.Limits.{AREA, IDS, WHOLE}
+use Rattle.timetable.proofs.EntryLaws.{weight-none}
 use Rattle.timetable.proofs.Onward.{ahead, ahead-inside, cyclic-onward, kept-onward, onward}
 use Rattle.timetable.proofs.Ranges.{InRange}
-use Rattle.timetable.proofs.Shares.{slices-absent, slices-fit, slices-weight, slicesSum, weight-absent}
+use Rattle.timetable.proofs.Shares.{slices-absent, slices-fit, slices-weight, slicesSum}
 use Rattle.timetable.proofs.Since.{shortfall-cycle}
 use Rattle.timetable.proofs.Sound.{Sound, sound-from}
 use Rattle.timetable.specs.declared.Entry.{Entry}
@@ -66,8 +68,8 @@ module _ (t : Timetable) (s : Sound t) (q : Request) (later : t .base .0 ≤ q .
       ∙ ap (entering (old i) (shortfallAfter (old i) n)) (same i k) ∙ rw l
 
   start-absent : (i : ℕ) → i < IDS → isListed (old i) ≡ false → entryOf es i ≡ absentEntry (shortfallAt t i (q .slot))
-  unfolding entering
-  start-absent i k l = start-at t (q .slot) (q .asks) i k ∙ ap (entering (old i) (shortfallAt t i (q .slot))) (same i k) ∙ rw l
+  start-absent i k l =
+      at-request t q .absent i k (ap (λ (a : Ask). a .period) (same i k) ∙ ap (λ (e : Entry). e .period) (s .ranged .absent i k l .zero))
 
   -- Who is listed stays so.
   same-listed : (i : ℕ) → i < IDS → isListed (entryOf es i) ≡ true → isListed (old i) ≡ true
@@ -110,7 +112,7 @@ module _ (t : Timetable) (s : Sound t) (q : Request) (later : t .base .0 ≤ q .
       one : (b : Bool) → isListed (old m) ≡ b → weight (entryOf es m) ≡ slicesAfter (old m) WHOLE
       one true l = ap weight (start-there m (omega arith) l) ∙ sym (slices-weight (old m) (s .ranged .listed m (omega arith) l))
       one false l =
-          ap weight (start-absent m (omega arith) l) ∙ weight-absent (shortfallAt t m (q .slot))
+          ap weight (start-absent m (omega arith) l) ∙ weight-none 0 refl
           ∙ sym (ap (λ (e : Entry). slicesAfter e WHOLE) (s .ranged .absent m (omega arith) l .zero) ∙ slices-absent (old m .shortfall) WHOLE)
 
   not-over : (i : ℕ) → i < IDS → weightSum es (suc i) ≤ WHOLE

@@ -7,7 +7,6 @@ use native.Mathlib.Nat.{div-eq-of-lt-le, mul-comm, suc-mul}
 use native.Mathlib.Omega.{arith}
 use Prim.Native.Nat.{ℕ, zero, suc, _+_, _-_, _*_, _/_, _≤_, _<_}
 use Rattle.slots.specs.Limits.{IDS, WHOLE}
-use Rattle.slots.specs.Shortfall.{weightOf}
 use Rattle.slots.specs.Slots.{one}
 use Rattle.timetable.proofs.Cycle.{slices-after, weight-pos}
 use Rattle.timetable.proofs.Ranges.{InRange, period-le, period-whole}
@@ -26,11 +25,7 @@ slices-weight e r =
     let q : (WHOLE - e .offset - 1) / p ≡ v = div-eq-of-lt-le p (omega (arith, r .inside, k, suc-mul v p)) (omega (arith, r .inside, k)) in
     omega (arith, slices-after e (r .inside) WHOLE (omega (arith, r .inside, period-le p (r .period))), q, w)
 
--- and one that is not listed has none, and no weight.
-pub weight-absent : (s : ℕ) → weight (absentEntry s) ≡ 0
-unfolding weightOf
-weight-absent s = refl
-
+-- and one that is not listed has none.
 pub slices-absent : (s n : ℕ) → slicesAfter (absentEntry s) n ≡ 0
 unfolding slicesAfter cyclic one
 slices-absent s zero = refl

@@ -14,7 +14,7 @@ use Prim.Native.Nat.{ℕ, zero, suc, _+_, _≤_, _<_}
 use Rattle.slots.specs.Limits.{IDS, LONGEST}
 use Rattle.slots.specs.Shortfall.{overSlot}
 use Rattle.slots.proofs.Below.{true-false}
-use Rattle.timetable.proofs.Shares.{weight-absent}
+use Rattle.timetable.proofs.EntryLaws.{weight-none}
 use Rattle.timetable.proofs.WalkLaws.{walk-absent}
 use Rattle.timetable.specs.declared.Entry.{Entry}
 use Rattle.timetable.specs.Timetable.{entryOf, isListed, weight, withShortfall, transitionShortfall}
@@ -108,7 +108,7 @@ module _ (plan : Plan) (f : Fit 0 plan) where
       → entryOf (q .entries) i ≡ entryOf (plan .entries) i
   walked-absent n l q e i k u =
       let s : Entry = entryOf (plan .entries) i in
-      let w : weight s ≡ 0 = ap weight (f .ranged .absent i k u .zero) ∙ weight-absent (s .shortfall) in
+      let w : weight s ≡ 0 = weight-none (s .period) (ap (λ (e : Entry). e .period) (f .ranged .absent i k u .zero)) in
       let walk = walked n l q e i k in
       let g = reach-fit n 0 plan q f (omega arith) e in
       let other : (m : ℕ) → m < n → i ≢ getD (q .owners) m 0 =
