@@ -2,7 +2,7 @@
 //! last value that is still sound is taken instead.
 
 use crate::built::{
-    alone, leave_out_transition, led_to, lengthen, limit, listed_ids, match_base, owe, settle,
+    alone, leave_out_transition, led_to, lengthen, limit, listed_ids, match_base, set_debt, settle,
     some_listed, some_unlisted, unlisted_ids,
 };
 use crate::random::Random;
@@ -314,5 +314,5 @@ fn debt(random: &mut Random, timetable: &mut Timetable) {
         6 => DEBT_LIMIT + random.between(1, 300) as u16,
         _ => random.pick(&[DEBT_LIMIT + 256, 4096, 1 << 15, u16::MAX]).unwrap_or(DEBT_LIMIT),
     };
-    owe(timetable, id, debt);
+    set_debt(timetable, id, debt);
 }

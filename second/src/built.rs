@@ -43,13 +43,13 @@ fn any_debts(random: &mut Random, timetable: &mut Timetable) {
         if random.chance(part, 8) {
             let any = random.below(u64::from(DEBT_LIMIT)) as u16;
             let debt = random.pick(&[any, any, any, 1, 255, 256, DEBT_LIMIT - 1]).unwrap_or(any);
-            owe(timetable, id, debt);
+            set_debt(timetable, id, debt);
         }
     }
 }
 
 /// An id that is not listed is owed so much, at the request slot and at the base.
-pub fn owe(timetable: &mut Timetable, id: usize, debt: u16) {
+pub fn set_debt(timetable: &mut Timetable, id: usize, debt: u16) {
     timetable.entries[id] = Entry { shortfall: debt, ..Entry::default() };
     timetable.starts[id] = debt;
 }
@@ -213,7 +213,7 @@ pub fn match_base(timetable: &mut Timetable) {
 /// one's.
 pub fn alone(timetable: &mut Timetable, id: usize) {
     for other in (0..IDS).filter(|&other| other != id) {
-        owe(timetable, other, timetable.starts[other]);
+        set_debt(timetable, other, timetable.starts[other]);
     }
     let used = usize::from(timetable.length);
     timetable.owners.iter_mut().take(used).for_each(|owner| *owner = id as u8);

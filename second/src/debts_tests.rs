@@ -2,7 +2,7 @@
 //! that is not listed may be owed (3.10, 3.13); who is refused 8 for it (1.10); and how often the stored
 //! streams have it.
 
-use crate::built::{owe, unlisted_ids};
+use crate::built::{set_debt, unlisted_ids};
 use crate::cases::record;
 use crate::change::{change, listed, Outcome, Request, AREA};
 use crate::counts::{ProbeCounts, RequestCounts};
@@ -177,14 +177,14 @@ fn returns_later(random: &mut Random, left: &Timetable, slot: u64) -> u32 {
 /// 3.10 and 3.13: an id that is not listed is owed at most 2,047, and the same at the request slot and at
 /// the base; it has no offset and no bound. That is so with a transition and without.
 #[test]
-fn what_an_absent_id_may_owe() {
+fn what_an_absent_id_may_be_owed() {
     for timetable in [Timetable::empty(), after_b()] {
         for id in unlisted_ids(&timetable) {
             for (debt, sound) in
                 [(1, true), (256, true), (2047, true), (2048, false), (4096, false)]
             {
                 let mut edited = timetable;
-                owe(&mut edited, id, debt);
+                set_debt(&mut edited, id, debt);
                 soundness(&edited, sound);
                 assert_eq!(standing_query(&edited, id as u8, 7).0, if sound { 10 } else { 1 });
                 for (start, shortfall) in [(debt - 1, debt), (debt, debt - 1), (0, debt), (debt, 0)]
@@ -206,7 +206,7 @@ fn what_an_absent_id_may_owe() {
 #[test]
 fn an_absent_id_is_not_served() {
     let mut served = after_b();
-    owe(&mut served, 9, 256);
+    set_debt(&mut served, 9, 256);
     soundness(&served, true);
     (served.owners[0], served.entries[9].shortfall) = (9, 0);
     soundness(&served, false);
@@ -216,8 +216,8 @@ fn an_absent_id_is_not_served() {
 #[test]
 fn eight_names_the_lowest_id_listed_or_not() {
     let mut timetable = after_b();
-    owe(&mut timetable, 5, 256);
-    owe(&mut timetable, 9, 2047);
+    set_debt(&mut timetable, 5, 256);
+    set_debt(&mut timetable, 9, 2047);
     let told = |shares: &[(u8, u8, u8)]| {
         let outcome = answered(&timetable, &record(8, 64, shares));
         (outcome.number, outcome.place)

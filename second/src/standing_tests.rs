@@ -96,7 +96,7 @@ fn a_start_is_below_256_r() {
 /// and no slot where owners are listed, so its start is what the walk leads to: where the two differ 3.14
 /// is broken too, or 3.9 if slots of its own take it off.
 #[test]
-fn an_unlisted_id_starts_with_what_it_owes() {
+fn an_unlisted_id_starts_with_what_it_is_owed() {
     for timetable in [Timetable::empty(), after_b(), walked([(4, 0, 1, 0)], &[5, 5], 6)] {
         soundness(&timetable, true);
         for id in unlisted_ids(&timetable) {

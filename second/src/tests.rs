@@ -141,7 +141,7 @@ fn case_d_with_a_short_field() {
 }
 
 /// An entry that is not listed, of an id that is owed so much.
-fn owing(shortfall: u16) -> Entry {
+fn absent(shortfall: u16) -> Entry {
     Entry { shortfall, ..Entry::default() }
 }
 
@@ -152,7 +152,7 @@ fn owing(shortfall: u16) -> Entry {
 fn leaving_and_returning_with_a_short_field() {
     let left = accepted(&after_b(), &request_left(7, 0), 1);
     assert_eq!(offsets(&left, [0, 1]), [0, 3]);
-    assert_eq!((left.entries[2], left.starts[2]), (owing(128), 128));
+    assert_eq!((left.entries[2], left.starts[2]), (absent(128), 128));
     let returned = accepted(&left, &request_short(8, 0), 1);
     assert_eq!((returned.request_slot, returned.length, returned.base), (8, 0, 8));
     assert_eq!(offsets(&returned, [0, 1, 2]), [3, 1, 0]);
@@ -168,7 +168,7 @@ fn leaving_and_returning_with_a_short_field() {
 #[test]
 fn a_debt_across_an_absence() {
     let left = accepted(&after_b(), &request_left(8, 0), 1);
-    assert_eq!((left.entries[2], left.starts[2]), (owing(256), 256));
+    assert_eq!((left.entries[2], left.starts[2]), (absent(256), 256));
     assert_eq!([8, 9, 20].map(|slot| standing_query(&left, 2, slot)), [(10, 0, 0); 3]);
     for slot in [8, 9, 20, LAST_SLOT] {
         for longest in [0, 64] {
@@ -188,7 +188,7 @@ fn a_debt_across_an_absence() {
 #[test]
 fn the_largest_debt() {
     let kept = accepted(&cases::in_debt(2047, 2047), &record(9, 0, &[]), 1);
-    assert_eq!((kept.entries[2], kept.starts[2]), (owing(2047), 2047));
+    assert_eq!((kept.entries[2], kept.starts[2]), (absent(2047), 2047));
     for (start, shortfall) in [(2048, 2048), (2047, 2046), (2046, 2047), (2048, 2047), (0, 1)] {
         refused(&cases::in_debt(start, shortfall), &record(0, 0, &[]), 1, 0, 0);
     }
@@ -298,7 +298,7 @@ fn case_i() {
     let after = accepted(&after_b(), &record(99, 64, &[]), 1);
     let mut empty = Timetable { request_slot: 99, base: 99, ..Timetable::empty() };
     for (id, owed) in [192, 64, 128].into_iter().enumerate() {
-        (empty.entries[id], empty.starts[id]) = (owing(owed), owed);
+        (empty.entries[id], empty.starts[id]) = (absent(owed), owed);
     }
     assert_eq!(after, empty);
 }
