@@ -129,13 +129,7 @@ kept-run (t ∷ h) v i x w = at (decLt x (t .request .0)) (λ y. kept-run h (v .
         let l = weight-lists t (v .0 .shape) i (subst (λ (y : ℕ). 0 < y) (weight-is (t ∷ h) v i x m) w) in
         let s = present-run (t ∷ h) v i (l .0) (suc x) (omega arith) in
         let q = kept-since (present h) t (v .0) i (l .0) (l .1) (suc x - t .request .0) in
-        kept-at s q (bound-is (t ∷ h) v i x m)
-      where
-        kept-at : shortfall (runOf (t ∷ h)) i (suc x) ≡ shortfallAt t i (coreSlot (suc x))
-            → shortfallSince t i (suc x - t .request .0) < WHOLE * entryOf (t .entries) i .bound
-            → runOf (t ∷ h) x .bound i ≡ entryOf (t .entries) i .bound
-            → shortfall (runOf (t ∷ h)) i (suc x) < WHOLE * runOf (t ∷ h) x .bound i
-        kept-at s q e = omega (arith, s, q, e)
+        omega (arith, s, q, bound-is (t ∷ h) v i x m)
 
 -- Over slots in which an id is not listed its shortfall stays as it is.
 pub absent-run : (h : History) → Valid h → (i a n : ℕ) → i < IDS → ((m : ℕ) → m < n → runOf h (a + m) .weight i ≡ 0)
