@@ -24,10 +24,10 @@ use Rattle.placement.specs.Placed.{placedOf, demandAt, demandsOf, Ranked
 use Rattle.placement.specs.Placement.{Demand, Place, demandOf, isTaken, allFree, lastFree, placeFrom, placement, settle}
 use Rattle.slots.proofs.Below.{every-all, every-not}
 use Rattle.slots.specs.Limits.{IDS, WHOLE}
-use Rattle.timetable.proofs.Ranges.{Period, period-dvd, period-le, period-pos}
+use Rattle.timetable.proofs.Ranges.{Period, period-dvd, period-is, period-le, period-pos}
 use Rattle.timetable.specs.declared.Entry.{Entry}
 use Rattle.timetable.specs.Marks.{Marks}
-use Rattle.timetable.specs.Sound.{entriesInRange}
+use Rattle.timetable.specs.Sound.{entriesInRange, isPeriod}
 use Rattle.timetable.specs.Timetable.{entryOf, isListed, withOffset}
 
 -- ---- one slot tells
@@ -157,9 +157,9 @@ unfolding placedOf
 placed-some es ps e = rw (placedOf, e)
 
 module _ (es : List Entry) (d : Demand) (rest : List Demand) (taken : Marks) (placed : List Entry) (r : Reached es (d ∷ rest) taken placed) where
-  -- Its last offset is below its period, which is at most 256.
-  pub reached-fair : (d .last < d .period) × (d .period ≤ WHOLE)
-  reached-fair = (r .order .0 .1, period-le (d .period) (r .order .0 .0))
+  -- Its last offset is below its period, which is in range.
+  pub reached-fair : (isPeriod (d .period) ≡ true) × (d .last < d .period)
+  reached-fair = (period-is (d .period) (r .order .0 .0), r .order .0 .1)
 
   module _ (l : ℕ) (last : l ≡ d .last) (f : Free) (found : Finds taken l f) where
     -- What the search up to its last offset finds is what rule 4 takes.
@@ -175,7 +175,7 @@ module _ (es : List Entry) (d : Demand) (rest : List Demand) (taken : Marks) (pl
     module _ (o : ℕ) (e : f ≡ At o) where
       -- An offset for it is below 256,
       pub reached-offset : o < WHOLE
-      reached-offset = omega (arith, clear-below (r .places) (l + 1) o (sym (found (r .places) (r .says)) ∙ e), reached-fair)
+      reached-offset = omega (arith, clear-below (r .places) (l + 1) o (sym (found (r .places) (r .says)) ∙ e), reached-fair, period-le (d .period) (r .order .0 .0))
 
       -- and with it taken and settled the rest of the demands follow.
       pub reached-more : (p i : ℕ) (at : Entry) (after : Marks) → p ≡ d .period → i ≡ d .id → at ≡ withOffset o (entryOf es i)

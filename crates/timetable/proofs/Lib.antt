@@ -11,6 +11,7 @@ pub mod Run
 pub mod ScanLaws
 pub mod EntryLaws
 pub mod SoundLaws
+pub mod Bits
 pub mod Marks
 pub mod TakenLaws
 pub mod OwnerLaws

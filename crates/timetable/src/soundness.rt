@@ -3,11 +3,11 @@ ghost use lib.Dec.{eqb, ltb};
 ghost use lib.ListN.{getD, length};
 ghost use mathlib.Core.Bool.{true, cond, _&&_, _||_};
 ghost use mathlib.Core.Path.{_≡_};
-ghost use Prim.Native.Nat.{_+_, _*_, _≤_};
+ghost use Prim.Native.Nat.{_+_, _*_, _≤_, _<_};
 ghost use Rattle.slots.specs.Below.{every};
 ghost use Rattle.slots.specs.Limits.{IDS, LONGEST};
 ghost use Rattle.slots.specs.Shortfall.{keeps};
-ghost use Rattle.timetable.specs.Marks.{OfCycle};
+ghost use Rattle.timetable.specs.Marks.{OfCycle, AreSlots};
 ghost use Rattle.timetable.specs.Sound.{requestInRange, lengthInRange, baseAsStated, ownersListed, isPeriod, isBound, entryInRange, entryAbsent, entriesInRange, noneShared, startInRange, startsInRange, walkArrives, isSound};
 ghost use Rattle.timetable.specs.Taken.{Takes};
 ghost use Rattle.timetable.specs.Timetable.{entryOf, isListed, weight};
@@ -16,8 +16,11 @@ use crate::Entry;
 use crate::Timetable;
 use crate::figures::after_own;
 
-// The slots of one cycle.
-const WHOLE: usize = Timetable::WHOLE as usize;
+// A word marks this many slots, one bit each: slot n is bit n % 64 of word n / 64.
+const WORD: usize = 64;
+
+// This many words mark the slots of one cycle.
+const WORDS: usize = Timetable::WHOLE as usize / WORD;
 
 impl Timetable {
     // Whether the timetable is sound.
@@ -77,7 +80,7 @@ impl Timetable {
     fn entries_fit(self) -> bool
         ensures { λ r. ⌜ r ≡ (entriesInRange (self .entries) && noneShared (self .entries)) ⌝ }
     {
-        let mut taken = [false; WHOLE];
+        let mut taken = [0; WORDS];
         let mut id: usize = 0;
         while id < Timetable::IDS {
             let e = self.entries[id];
@@ -239,8 +242,8 @@ impl Entry {
     }
 }
 
-// An entry takes its slots of one cycle, if none of them is taken.
-fn take_slots(taken: &mut [bool; WHOLE], e: Entry) -> bool
+// An entry takes its slots of one cycle, if none of them is taken: those of a word at once.
+fn take_slots(taken: &mut [u64; WORDS], e: Entry) -> bool
     requires { ⌜ OfCycle (now taken) ⌝ }
     requires { ⌜ (isListed e ≡ true → entryInRange e ≡ true) ⌝ }
     ensures { λ r. ⌜ Takes (now (taken .entry)) e r (now (taken .exit)) ⌝ }
@@ -249,15 +252,34 @@ fn take_slots(taken: &mut [bool; WHOLE], e: Entry) -> bool
         return true;
     }
     let period = e.period as usize;
-    let mut slot = e.offset as usize;
-    while slot < WHOLE {
-        if taken[slot] {
+    let offset = e.offset as usize;
+    let slots = slots_in_word(period, offset);
+    let stride = (period + (WORD - 1)) / WORD;
+    let mut word = offset / WORD;
+    while word < WORDS {
+        let marks = taken[word];
+        if marks & slots != 0 {
             return false;
         }
-        taken[slot] = true;
-        slot += period;
+        taken[word] = marks | slots;
+        word += stride;
     }
     true
+}
+
+// The slots of an offset in a word that has any of them: the first, and then twice as many, which reach twice as far, up to the word's end.
+fn slots_in_word(period: usize, offset: usize) -> u64
+    requires { ⌜ offset < period ⌝ }
+    ensures { λ r. ⌜ AreSlots period offset r ⌝ }
+{
+    let one: u64 = 1;
+    let mut slots = one << (offset % WORD);
+    let mut reach = period;
+    while reach < WORD {
+        slots |= slots << reach;
+        reach *= 2;
+    }
+    slots
 }
 
 // A period is a power of two from 1 to 256.

@@ -1,12 +1,13 @@
 -- `place` meets its contract. The loop's invariant: the first i of the demands have their places, which the table and the entries placed show, and
 -- the placement goes on from there with the rest. Assumes nothing.
 use borrow.Author.Needs.{needs}
-use mathlib.Core.Path.{sym}
+use mathlib.Core.Path.{sym, ap, _∙_}
 use native.Mathlib.Omega.{arith}
 use Prim.Native.Nat.{_-_}
 use Rattle.placement.proofs.place.Statement.{statement}
 use Rattle.placement.proofs.place.Tie as tie
 use Rattle.placement.proofs.Placing.{Turn, Next, turn-next, turn-last, reached-none, reached-fair, reached-stuck, reached-offset, reached-more, reached-all}
+use Rattle.timetable.specs.Sound.{isPeriod}
 
 abbrev Inv-loop : tie.InvT-loop
 Inv-loop entries ranks count taken₀ placed₀ i₀ taken placed i = Turn entries ranks count taken placed i
@@ -50,7 +51,10 @@ last-requires : tie.Need-last-requires Inv-loop μ-loop
 last-requires c κs = search needs
 
 take-last-requires : tie.Need-take-last-requires Inv-loop μ-loop
-take-last-requires c κs = let f = reached-fair _ _ _ _ _ (next (c .before .before .before)) in omega arith
+take-last-requires c κs =
+    let f = reached-fair _ _ _ _ _ (next (c .before .before .before)) in
+    let p = c .before .period in
+    (ap isPeriod (p .ensures) ∙ f .0, omega (arith, f .1, p .ensures, c .last .ensures))
 
 enum-known-offset : tie.Need-enum-known-offset Inv-loop μ-loop
 enum-known-offset c = search needs

@@ -5,9 +5,10 @@ use native.Mathlib.Omega.{arith}
 use Rattle.placement.proofs.Table.{same-offset, at-nowhere}
 use Rattle.placement.proofs.taken.take_last.Statement.{statement}
 use Rattle.placement.proofs.taken.take_last.Tie as tie
+use Rattle.timetable.proofs.Ranges.{period-from, period-le}
 
 last-free-requires : tie.Need-last-free-requires
-last-free-requires c κs = search needs
+last-free-requires c κs = let s = c .before in omega (arith, s .pre .1, period-le _ (period-from _ (s .pre .0)))
 
 enum-known-found : tie.Need-enum-known-found
 enum-known-found c = search needs
@@ -16,7 +17,8 @@ mark-requires : tie.Need-mark-requires
 mark-requires c κs =
     let f = c .before .before .found .given in
     let l = c .before .before .before .before .last-free .ensures .1 (f .0 .0) (f .1) in
-    (omega arith, omega arith)
+    let s = c .before .before .before .before .before .before in
+    (s .pre .0, omega (arith, s .pre .1))
 
 enum-told : tie.Need-enum-told
 enum-told c = search needs
