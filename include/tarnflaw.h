@@ -268,13 +268,14 @@
  *
  * What it takes
  *
- * Measured, not proved, and the worst that was found, not a bound. Stack, with that of memcpy and memset (bench/count): of a change 5,551 bytes, of an
- * owner query 2,207, of a standing query 1,871; that of the other functions was not measured. Times on x86-64 are of version 4. A change took 95 to 103
+ * Measured, not proved, and the worst that was found, not a bound. Stack, with that of memcpy and memset (bench/count): of a change 5,231 bytes, of an
+ * owner query 2,015, of a standing query 1,679; that of the other functions was not measured. Times on x86-64 are of version 4. A change took 95 to 103
  * microseconds on a quiet machine, 142 where other work disturbed it; a query 0.5 (docs/BENCHMARKS.md has the machine and the inputs). A later build was
  * timed on a slower machine with an unsteady clock: the worst changes of three runs took 169, 201 and 117 microseconds there (docs/landings/ground.md).
  * Reading an answer took 0.2 microseconds at the worst, and writing a request 0.1. Since version 5 every call tests more. Made for an Arm machine and timed
  * there, the worst change took 77 microseconds before and after, and the median one of (a) 0.8 and 1.0; the worst query took 0.4 and 0.8, the most after a
- * long transition (docs/landings/CR-04.md). Measure on your board. */
+ * long transition (docs/landings/CR-04.md). A later build of version 6, whose search marks slots in bits: the worst change 42 microseconds there, the
+ * median one 0.9, the worst query 0.8 (docs/landings/CR-06.md). Measure on your board. */
 #ifndef TARNFLAW_H
 #define TARNFLAW_H
 
