@@ -7,6 +7,7 @@ use crate::clauses::broken_alone;
 use crate::debt_counts::DebtCounts;
 use crate::generate::{Generator, Left};
 use crate::numbers::{ACCEPTED, LENGTHS_EXHAUSTED, SLOT_MISSED};
+use crate::offset_counts::OffsetCounts;
 use crate::probe::{put, read_probe, timetable_of, Probe, Reply};
 use crate::probes::{Made, Origin};
 use crate::records::{read_request, with_longest};
@@ -65,14 +66,15 @@ impl Wants {
     }
 }
 
-/// The numbers, refusals for want of a schedule, requests put again, lengths, short fields and debts of
-/// a stream.
+/// The numbers, refusals for want of a schedule, requests put again, lengths, offsets, short fields and
+/// debts of a stream.
 #[derive(Default)]
 pub struct RequestCounts {
     pub numbers: [u64; NUMBERS],
     pub wants: Wants,
     pub again: [u64; AGAIN.len()],
     pub lengths: [u64; LENGTHS.len()],
+    pub offsets: OffsetCounts,
     pub short: ShortCounts,
     pub debts: DebtCounts,
 }
@@ -94,6 +96,7 @@ impl RequestCounts {
             }
             if outcome.number == ACCEPTED {
                 add(&mut counts.lengths, length_class(outcome.timetable.length));
+                counts.offsets.count(&outcome.timetable);
             }
             counts.short.count(&timetable, &left, &request, &outcome);
             counts.debts.count(&timetable, &left, &request, &outcome);
@@ -104,8 +107,8 @@ impl RequestCounts {
         counts
     }
 
-    /// The tables: numbers, refusals for want of a schedule, requests put again, lengths, short fields,
-    /// and debts.
+    /// The tables: numbers, refusals for want of a schedule, requests put again, lengths, offsets, short
+    /// fields, and debts.
     pub fn tables(&self) -> String {
         let numbers: Vec<String> = (0..NUMBERS).map(|number| number.to_string()).collect();
         let tables = [
@@ -113,6 +116,7 @@ impl RequestCounts {
             self.wants.tables(),
             class_table("Again with a larger T", &AGAIN, &self.again),
             class_table("Transition length", &LENGTHS, &self.lengths),
+            self.offsets.tables(true),
             self.short.tables(true),
             self.debts.tables(true),
         ];
@@ -168,13 +172,14 @@ impl KindCounts {
     }
 }
 
-/// The kinds, numbers, refusals for want of a schedule, lengths, short fields, debts, standings, area
-/// sizes and timetables of a stream of probes.
+/// The kinds, numbers, refusals for want of a schedule, lengths, offsets, short fields, debts, standings,
+/// area sizes and timetables of a stream of probes.
 #[derive(Default)]
 pub struct ProbeCounts {
     pub kinds: KindCounts,
     pub wants: Wants,
     pub lengths: [u64; LENGTHS.len()],
+    pub offsets: OffsetCounts,
     pub short: ShortCounts,
     pub debts: DebtCounts,
     pub standings: StandingCounts,
@@ -219,8 +224,8 @@ impl ProbeCounts {
         }
     }
 
-    /// A change is counted by its area, by its acceptance's length or its want of a schedule, and by
-    /// its short fields and debts.
+    /// A change is counted by its area, by its acceptance's length and offsets or its want of a
+    /// schedule, and by its short fields and debts.
     fn count_change(&mut self, probe: &Probe, reply: &Reply) {
         let (
             Probe::Change { image, request, .. },
@@ -234,7 +239,10 @@ impl ProbeCounts {
             return;
         };
         match number {
-            ACCEPTED => add(&mut self.lengths, length_class(timetable.length)),
+            ACCEPTED => {
+                add(&mut self.lengths, length_class(timetable.length));
+                self.offsets.count(&timetable);
+            }
             number => self.wants.count(&before, request, (number, place)),
         }
         let outcome = Outcome { number, place, tries, written, timetable };
@@ -251,6 +259,7 @@ impl ProbeCounts {
             (Origin::Broken(clause), Some(timetable)) => broken_alone(&timetable, clause),
             _ => false,
         };
+        timetable.iter().filter(|_| alone).for_each(|broken| self.offsets.count_shared(broken));
         if let Some(count) = self.origins.iter_mut().find(|count| count.origin == origin) {
             count.probes += 1;
             count.unsound += u64::from(!sound);
@@ -258,13 +267,14 @@ impl ProbeCounts {
         }
     }
 
-    /// The tables: numbers by kind, refusals for want of a schedule, lengths, short fields, debts,
-    /// standings, area sizes, and timetables by how they were made.
+    /// The tables: numbers by kind, refusals for want of a schedule, lengths, offsets, short fields,
+    /// debts, standings, area sizes, and timetables by how they were made.
     pub fn tables(&self) -> String {
         let tables = [
             self.kinds.table(),
             self.wants.tables(),
             class_table("Transition length", &LENGTHS, &self.lengths),
+            self.offsets.tables(false),
             self.short.tables(false),
             self.debts.tables(false),
             self.standings.tables(),

@@ -20,6 +20,7 @@ pub mod figures;
 pub mod frames;
 pub mod generate;
 pub mod numbers;
+pub mod offset_counts;
 pub mod probe;
 pub mod probes;
 pub mod queries;
@@ -53,6 +54,8 @@ mod as_before;
 mod debts_tests;
 #[cfg(test)]
 mod figures_tests;
+#[cfg(test)]
+mod offset_tests;
 #[cfg(test)]
 mod probe_tests;
 #[cfg(test)]
