@@ -82,7 +82,7 @@ module _ (marks top bits : ℕ) (inside : top < WORD) (f : FreeUpTo marks top bi
 abbrev pub Passed : Marks → ℕ → ℕ → Type 0
 Passed table last i = (ps : List Place) → Says table ps → lastClear ps (last + 1) ≡ lastClear ps i
 
--- Taken slots are passed over.
+-- The largest free slot does not lie among taken ones.
 clear-over : (ps : List Place) (m d : ℕ) → ((n : ℕ) → m ≤ n → n < m + d → isTaken ps n ≡ true) → lastClear ps (m + d) ≡ lastClear ps m
 unfolding lastClear
 clear-over ps m zero h = ap (lastClear ps) (add-zero m)
@@ -197,7 +197,7 @@ module _ (half o n : ℕ) (l : o < half) where
               let s : (n - half) % (half * 2) ≡ m - half = left-of (n - half) (half * 2) q (m - half) (omega arith) (omega arith) in
               rw (whole, r, s, le-leb half n (omega arith), ne-eqb m o (λ g. omega arith)) refl
 
--- The bits are those of the slots that are so far apart as a word and the period have in common, halved from a word down.
+-- The bits are those of the slots that stand so far apart, from the offset on: a word, or half as far and so on down to the period.
 pub record Halved (period offset slots apart : ℕ) : Type 0 where
   pub power : ℕ
   pub small : power ≤ 6
