@@ -1,22 +1,32 @@
 -- What each exported function returns and leaves, from its test of the image's length and the answer that it got. Assumes nothing.
 use borrow.Author.Tests.{eq-eqb, ne-eqb}
-use lib.ListN.{length}
-use mathlib.Core.List.{List}
+use lib.ListN.{length, replicate}
+use lib.Seq.{sets}
+use mathlib.Core.Bool.{false}
+use mathlib.Core.List.{List, []}
 use mathlib.Core.Logic.{_≢_}
 use mathlib.Core.Path.{_≡_, refl, sym, ap, _∙_}
 use native.Mathlib.Omega.{arith}
-use Prim.Native.Nat.{ℕ}
+use Prim.Native.Nat.{ℕ, _≤_}
 use Rattle.board.specs.Image.{Changed, IMAGE, OwnerTold, StandingTold, areaAfterImage, emptyImage, emptyNumber, imageAfter, imageAnswer, imageOf, imageOwner, imageStanding, timetableAt}
-use Rattle.change.specs.Change.{answer, areaAfter, outcome, recordOf, refuse, written}
+use Rattle.change.proofs.Answers.{accepted-owners, record-accepted, record-none}
+use Rattle.change.proofs.Passing.{answer-unsound, goes-into}
+use Rattle.change.specs.Change.{answer, recordOf, refuse, written}
+use Rattle.change.specs.Columns.{Decides}
 use Rattle.change.specs.declared.Answer.{Answer}
-use Rattle.change.specs.declared.Outcome.{Outcome}
+use Rattle.change.specs.declared.Decided.{Decided}
 use Rattle.change.specs.declared.OwnerAnswer.{OwnerAnswer}
 use Rattle.change.specs.declared.StandingAnswer.{StandingAnswer}
 use Rattle.change.specs.Queries.{ownerQuery, standingQuery}
 use Rattle.numbers.specs.Numbers.{ACCEPTED, NOT-SOUND, refusal}
+use Rattle.records.proofs.AnswerLaws.{answer-columns}
+use Rattle.records.specs.Answer.{answerRecord}
 use Rattle.slots.specs.Clocks.{coreSlot}
+use Rattle.slots.specs.Limits.{AREA, IDS, LONGEST}
+use Rattle.timetable.proofs.ColumnLaws.{columns-empty}
+use Rattle.timetable.specs.Columns.{fromColumns, ofColumns}
 use Rattle.timetable.specs.declared.Timetable.{Timetable}
-use Rattle.timetable.specs.Timetable.{emptyTimetable}
+use Rattle.timetable.specs.Sound.{isSound}
 
 -- What a request gets, told: with its answer, and the image left.
 told : (image request area after : List ℕ) (a : Answer) → imageAnswer image request (length area) ≡ a → after ≡ imageAfter image request (length area)
@@ -77,10 +87,11 @@ module _ (image : List ℕ) (n : length image ≢ IMAGE) where
 
 -- An image: the answer on the timetable that it holds.
 module _ (image : List ℕ) (e : length image ≡ IMAGE) where
-  pub empty-made : (after : List ℕ) (t : Timetable) → t ≡ emptyTimetable → after ≡ imageOf t
+  pub empty-made : (after : List ℕ)
+      → after ≡ imageOf (ofColumns (coreSlot 0) 0 (replicate LONGEST 0) (coreSlot 0) (replicate IDS 0) (replicate IDS 0) (replicate IDS 0) (replicate IDS 0) (replicate IDS 0))
       → (ACCEPTED ≡ emptyNumber image) × (after ≡ emptyImage image)
   unfolding emptyNumber emptyImage
-  empty-made after t q p = rw (eq-eqb _ _ e, p, q) (refl, refl)
+  empty-made after p = rw (eq-eqb _ _ e, p, ofColumns, columns-empty) (refl, refl)
 
   module _ (t : Timetable) (h : t ≡ timetableAt image) where
     pub owner-told : (slot : ℕ) (a : OwnerAnswer) → a ≡ ownerQuery t (coreSlot slot) → OwnerTold (imageOwner image slot) (a .number) (a .place) (a .owner)
@@ -93,28 +104,58 @@ module _ (image : List ℕ) (e : length image ≡ IMAGE) where
     standing-told id slot a q =
         rw (eq-eqb _ _ e, q, h) (record { number-told = refl; place-told = refl; shortfall-told = refl; slices-told = refl })
 
-    module _ (request area area-after : List ℕ) (o : Outcome) (p : o ≡ outcome t request area) (r : area-after ≡ areaAfter t request area) where
+    module _ (request area : List ℕ) where
       gets : imageAnswer image request (length area) ≡ answer t request (length area)
       gets = answer-held image request (length area) e ∙ ap (λ (x : Timetable). answer x request (length area)) (sym h)
 
-      -- With what was returned and left, and the image left.
-      left : (after : List ℕ) → after ≡ imageAfter image request (length area)
-          → Changed image request area (o .number) (o .place) (o .tries) (o .written) after area-after
-      unfolding outcome areaAfter
-      left after i = rw (p, r) (told image request area after (answer t request (length area)) gets i)
+      -- A timetable that is not sound leaves every byte.
+      pub change-unsound : isSound t ≡ false → Changed image request area NOT-SOUND 0 0 0 image area
+      unfolding recordOf
+      change-unsound u =
+          let g = gets ∙ answer-unsound t request (length area) _ refl u in
+          told image request area image (refuse t (refusal NOT-SOUND 0)) g
+          (sym (after-refused image request (length area) (λ z. omega (arith, z, ap (λ (x : Answer). x .number) g))))
 
-      pub change-accepted : (after : List ℕ) → o .number ≡ ACCEPTED → after ≡ imageOf (o .timetable)
-          → Changed image request area (o .number) (o .place) (o .tries) (o .written) after area-after
-      unfolding outcome
-      change-accepted after a i =
-          left after
-          (i ∙ ap (λ (x : Outcome). imageOf (x .timetable)) p
-          ∙ sym (after-accepted image request (length area) (ap (λ (x : Answer). x .number) gets ∙ sym (ap (λ (x : Outcome). x .number) p) ∙ a)
-          ∙ ap (λ (x : Answer). imageOf (x .timetable)) gets))
+      module _ (d : Decided) (owners periods bounds shortfalls starts : List ℕ)
+          (k : Decides (answer t request (length area)) d owners periods bounds shortfalls starts) where
+        -- What was decided, with the bytes written, the image and the area left.
+        left : (bytes : ℕ) (after area-after : List ℕ) → bytes ≡ length (recordOf (answer t request (length area)))
+            → after ≡ imageAfter image request (length area) → area-after ≡ written (answer t request (length area)) area
+            → Changed image request area (d .number) (d .place) (d .tries) bytes after area-after
+        left bytes after area-after b i r =
+            rw (k .number, k .place, k .tries, b, r) (told image request area after (answer t request (length area)) gets i)
 
-      pub change-refused : o .number ≢ ACCEPTED → Changed image request area (o .number) (o .place) (o .tries) (o .written) image area-after
-      unfolding outcome
-      change-refused n =
-          left image
-          (sym (after-refused image request (length area)
-          (λ z. n (ap (λ (x : Outcome). x .number) p ∙ sym (ap (λ (x : Answer). x .number) gets) ∙ z))))
+        module _ (a : d .number ≡ ACCEPTED) where
+          -- The record of what was decided is the answer's.
+          record-decided : recordOf (answer t request (length area)) ≡ answerRecord (d .length) owners (fromColumns periods (d .offsets) [] [])
+          record-decided =
+              record-accepted _ (sym (k .number) ∙ a)
+              ∙ ap (λ (x : Timetable). answerRecord (x .length) (x .owners) (x .entries)) (k .in-force (sym (k .number) ∙ a))
+              ∙ answer-columns (d .length) owners periods (d .offsets) bounds shortfalls
+
+          pub change-accepted : (bytes : ℕ) (after area-after : List ℕ)
+              → after ≡ imageOf (ofColumns (d .slot) (d .length) owners (d .base) periods (d .offsets) bounds shortfalls starts)
+              → bytes ≡ length (answerRecord (d .length) owners (fromColumns periods (d .offsets) [] []))
+              → area-after ≡ sets area 0 (answerRecord (d .length) owners (fromColumns periods (d .offsets) [] []))
+              → Changed image request area (d .number) (d .place) (d .tries) bytes after area-after
+          change-accepted bytes after area-after i b r =
+              left bytes after area-after (b ∙ ap (λ (x : List ℕ). length x) (sym record-decided))
+              (i ∙ sym (ap imageOf (k .in-force (sym (k .number) ∙ a)))
+              ∙ sym (after-accepted image request (length area) (ap (λ (x : Answer). x .number) gets ∙ sym (k .number) ∙ a)
+              ∙ ap (λ (x : Answer). imageOf (x .timetable)) gets))
+              (r ∙ ap (sets area 0) (sym record-decided))
+
+          -- What writing the record asks.
+          pub record-fits : (AREA ≤ length area) × (d .length ≤ LONGEST) × (length owners ≡ LONGEST)
+          record-fits =
+              let z = sym (k .number) ∙ a in
+              let u = k .in-force z in
+              let g = goes-into t request (length area) z in
+              (g .0, omega (arith, g .1, ap (λ (x : Timetable). x .length) u), sym (ap (λ (x : Timetable). length (x .owners)) u) ∙ accepted-owners t request (length area) z)
+
+        pub change-refused : d .number ≢ ACCEPTED → Changed image request area (d .number) (d .place) (d .tries) 0 image area
+        change-refused n =
+            let y = record-none (answer t request (length area)) (λ z. n (k .number ∙ z)) in
+            left 0 image area (sym (ap (λ (x : List ℕ). length x) y))
+            (sym (after-refused image request (length area) (λ z. n (k .number ∙ sym (ap (λ (x : Answer). x .number) gets) ∙ z))))
+            (sym (ap (sets area 0) y))

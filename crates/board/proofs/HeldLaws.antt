@@ -7,13 +7,16 @@ use native.Mathlib.Nat.{zero-add}
 use native.Mathlib.Omega.{arith}
 use Prim.Native.Nat.{ℕ, _+_, _*_, _<_}
 use Rattle.board.proofs.StoreLaws.{rising-length, rising-next}
-use Rattle.board.specs.Image.{BASE-AT, IMAGE, LENGTH-AT, OWNERS-AT, START, STARTS-AT, entriesAt, startAt, startsAt, timetableAt}
+use Rattle.board.specs.Image.{BASE-AT, ENTRIES-AT, ENTRY, IMAGE, LENGTH-AT, OWNERS-AT, START, STARTS-AT, entriesAt, entryAt, startAt, startsAt, timetableAt}
 use Rattle.records.proofs.SetsLaws.{sets-all, sets-next}
 use Rattle.records.specs.Request.{numberAt}
 use Rattle.slots.specs.Clocks.{coreSlot}
+use Rattle.slots.specs.declared.CoreSlot.{CoreSlot}
 use Rattle.slots.specs.Limits.{IDS, LONGEST}
+use Rattle.timetable.proofs.Entries.{each-at, length-each}
 use Rattle.timetable.specs.declared.Entry.{Entry}
 use Rattle.timetable.specs.declared.Timetable.{Timetable}
+use Rattle.timetable.specs.Timetable.{entryOf, noEntry}
 
 -- A number of two bytes is below 2^16.
 pub short-below : (s : List ℕ) (at : ℕ) → ((i : ℕ) → getD s i 0 < 256) → numberAt s at 2 < 65536
@@ -44,9 +47,18 @@ module _ (image starts : List ℕ) (n : ℕ) (e : starts ≡ sets (replicate IDS
   pub starts-all : n ≡ IDS → starts ≡ startsAt image IDS
   starts-all h = (rw h at e) ∙ sets-all (replicate IDS 0) (startsAt image IDS) (rising-length _ 1 (λ i. refl) IDS ∙ sym (length-replicate {A = ℕ} IDS 0))
 
+module _ (s : List ℕ) where
+  -- There are as many entries as ids.
+  pub held-length : length (entriesAt s IDS) ≡ IDS
+  held-length = length-each _ IDS (replicate IDS noEntry) ∙ length-replicate IDS noEntry
+
+  -- The entry of an id is what its six bytes hold.
+  pub held-at : (i : ℕ) → i < IDS → entryOf (entriesAt s IDS) i ≡ entryAt s (ENTRIES-AT + ENTRY * i)
+  held-at i h = each-at _ IDS (replicate IDS noEntry) (omega (arith, length-replicate IDS noEntry)) i h
+
 -- The fields are the timetable.
-pub held : (image owners starts : List ℕ) (es : List Entry) (a b : ℕ) → a ≡ numberAt image 0 8 → owners ≡ take LONGEST (drop OWNERS-AT image) → b ≡ numberAt image BASE-AT 8
-    → es ≡ entriesAt image IDS → starts ≡ startsAt image IDS
-    → _≡_ {A = Timetable} (record { request = coreSlot a; length = getD image LENGTH-AT 0; owners = owners; base = coreSlot b; entries = es; starts = starts }) (timetableAt image)
+pub held : (image owners starts : List ℕ) (es : List Entry) (request base : CoreSlot) (size : ℕ) → request ≡ coreSlot (numberAt image 0 8) → size ≡ getD image LENGTH-AT 0
+    → owners ≡ take LONGEST (drop OWNERS-AT image) → base ≡ coreSlot (numberAt image BASE-AT 8) → es ≡ entriesAt image IDS → starts ≡ startsAt image IDS
+    → _≡_ {A = Timetable} (record { request = request; length = size; owners = owners; base = base; entries = es; starts = starts }) (timetableAt image)
 unfolding timetableAt
-held image owners starts es a b p q r s u = rw (p, q, r, s, u)
+held image owners starts es request base size p l q r s u = rw (p, l, q, r, s, u)

@@ -1,11 +1,12 @@
 -- Reading what was written gives it back: each field stands where the one before ends. Assumes nothing.
-use lib.ListN.{drop, getD, length, length-append, length-replicate, replicate, take}
+use lib.ListN.{drop, getD, length, length-append, take}
 use lib.Seq.{drop-at, drop-drop, ext-getD, getD-at, getD-drop, take-all, take-at, take-suc}
 use mathlib.Core.List.{List, [], _∷_, _++_, append-assoc, append-nil}
 use mathlib.Core.Path.{_≡_, refl, sym, ap, _∙_}
 use native.Mathlib.Omega.{arith}
 use Prim.Native.Nat.{ℕ, zero, suc, _+_, _*_, _^_, _≤_, _<_}
 use Rattle.board.proofs.StoreLaws.{entries-length, entry-length, rising-stands, start-length}
+use Rattle.board.proofs.HeldLaws.{held-at, held-length}
 use Rattle.board.specs.Image.{BASE-AT, ENTRIES-AT, ENTRY, Fits, LENGTH-AT, OWNERS-AT, START, STARTS-AT, entriesAt, entriesBytes, entryAt, entryBytes, imageOf, startAt, startsAt, startsBytes, timetableAt}
 use Rattle.records.proofs.FieldStands.{number-length, number-stands}
 use Rattle.records.proofs.RisingLaws.{rising-same}
@@ -14,20 +15,11 @@ use Rattle.records.specs.Request.{numberAt}
 use Rattle.records.specs.Written.{numberBytes}
 use Rattle.slots.specs.Clocks.{coreSlot}
 use Rattle.slots.specs.Limits.{IDS, LONGEST}
-use Rattle.timetable.proofs.Entries.{each-at, length-each}
 use Rattle.timetable.specs.declared.Entry.{Entry}
 use Rattle.timetable.specs.declared.Timetable.{Timetable}
 use Rattle.timetable.specs.Timetable.{entryOf, noEntry, startOf}
 
 module _ (s : List ℕ) where
-  -- There are as many entries as ids.
-  held-length : length (entriesAt s IDS) ≡ IDS
-  held-length = length-each _ IDS (replicate IDS noEntry) ∙ length-replicate IDS noEntry
-
-  -- The entry of an id is what its six bytes hold.
-  held-at : (i : ℕ) → i < IDS → entryOf (entriesAt s IDS) i ≡ entryAt s (ENTRIES-AT + ENTRY * i)
-  held-at i h = each-at _ IDS (replicate IDS noEntry) (omega (arith, length-replicate IDS noEntry)) i h
-
   -- An entry is read back from its six bytes.
   entry-back : (at : ℕ) (e : Entry) (rest : List ℕ) → e .period < 2 ^ 16 → e .shortfall < 2 ^ 16 → drop at s ≡ entryBytes e ++ rest → entryAt s at ≡ e
   unfolding entryBytes numberBytes

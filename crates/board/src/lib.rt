@@ -12,6 +12,7 @@ use records::write::OWNERS_TAG;
 use slots::CoreSlot;
 use timetable::Timetable;
 
+mod changing; // changing.rt: the change of an image by a request
 mod image; // image.rt: reading and writing an image
 mod schedule; // schedule.rt: writing what an answer says
 
@@ -29,7 +30,21 @@ pub extern "C" fn tarnflaw_empty(image: &mut [u8]) -> u8
     if image.len() != IMAGE {
         return Refusal::NOT_SOUND;
     }
-    image::put_image(image, Timetable::empty());
+    let owners: [u8; Timetable::LONGEST] = [0; Timetable::LONGEST];
+    let bytes: [u8; Timetable::IDS] = [0; Timetable::IDS];
+    let shorts: [u16; Timetable::IDS] = [0; Timetable::IDS];
+    image::put_image(
+        image,
+        CoreSlot(0),
+        0,
+        &owners,
+        CoreSlot(0),
+        &shorts,
+        &bytes,
+        &bytes,
+        &shorts,
+        &shorts,
+    );
     Refusal::ACCEPTED
 }
 
@@ -51,16 +66,11 @@ pub extern "C" fn tarnflaw_change(
         *written = 0;
         return Refusal::NOT_SOUND;
     }
-    let o = change::change(image::timetable_of(image), request, area);
-    *place = o.place;
-    *tries = o.tries;
-    *written = o.written;
-    let number = o.number;
-    if number == Refusal::ACCEPTED {
-        let t = o.timetable;
-        image::put_image(image, t);
-    }
-    number
+    let told = changing::change_image(image, request, area);
+    *place = told.place;
+    *tries = told.tries;
+    *written = told.written;
+    told.number
 }
 
 // The owner of a slot, or 255 for idle.

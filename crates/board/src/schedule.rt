@@ -30,7 +30,7 @@ pub fn put_schedule(area: &mut [u8], x: Schedule)
     let owners = x.owners;
     let offsets = x.offsets;
     area[0] = x.length;
-    put_owners(area, OWNERS_AT, OWNERS, owners);
+    put_owners(area, OWNERS_AT, OWNERS, &owners);
     put_listed(area, offsets);
     put_offsets(area, offsets);
 }

@@ -22,7 +22,7 @@ use Rattle.numbers.specs.Numbers.{OUT-OF-RANGE, refusal}
 use Rattle.records.specs.Request.{noAsks, limitField, readListing, refusedRequest, withListing, readRequest}
 use Rattle.slots.specs.Clocks.{coreSlot}
 use Rattle.timetable.specs.Timetable.{noEntry}
-use Rattle.transition.specs.declared.Plan.{Plan}
+use Rattle.transition.specs.Plan.{Plan}
 use Rattle.transition.specs.Transition.{searchFrom}
 
 -- T is read from the request.

@@ -29,7 +29,7 @@ use Rattle.transition.proofs.Plans.{Fit}
 use Rattle.transition.proofs.Reach.{fit-reached}
 use Rattle.transition.proofs.Search.{PassedFirst}
 use Rattle.transition.proofs.Walk.{owners-stay, walk-agree, walked, walked-absent}
-use Rattle.transition.specs.declared.Plan.{Plan}
+use Rattle.transition.specs.Plan.{Plan}
 use Rattle.transition.specs.Reach.{reach}
 use Rattle.transition.specs.Transition.{placed}
 

@@ -11,8 +11,7 @@ use Rattle.slots.specs.declared.CoreSlot.{CoreSlot}
 use Rattle.timetable.specs.declared.Timetable.{Timetable}
 use Rattle.transition.specs.declared.Ending.{Ending}
 use Rattle.transition.specs.declared.Ending.the-variants.{Found, Missed, Exhausted}
-use Rattle.transition.specs.declared.Plan.{Plan}
-use Rattle.transition.specs.declared.Searched.{Searched}
+use Rattle.transition.specs.Plan.{Plan, Searched}
 
 -- The answer of a search asks the request for its slot and its starts alone.
 pub same-slot : (t : Timetable) (q q′ : Request) → q′ .slot ≡ q .slot → startPlan t q′ ≡ startPlan t q → (x : Searched) → answerOf t q′ x ≡ answerOf t q x

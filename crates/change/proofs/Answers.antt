@@ -33,8 +33,7 @@ use Rattle.timetable.specs.Timetable.{entryOf}
 use Rattle.transition.proofs.Plans.{Fit}
 use Rattle.transition.proofs.Reach.{reach-fit}
 use Rattle.transition.proofs.Search.{PassedFirst, Ended, found, missed, exhausted, search-ends}
-use Rattle.transition.specs.declared.Plan.{Plan}
-use Rattle.transition.specs.declared.Searched.{Searched}
+use Rattle.transition.specs.Plan.{Plan, Searched}
 use Rattle.transition.specs.Reach.{reach}
 use Rattle.transition.specs.Transition.{longer, placed}
 

@@ -35,7 +35,7 @@ use Rattle.timetable.specs.declared.Entry.{Entry}
 use Rattle.timetable.specs.declared.Timetable.{Timetable}
 use Rattle.timetable.specs.Timetable.{entryOf, isListed, lists, shortfallAt}
 use Rattle.transition.proofs.RuleThreeLaws.{same-entries}
-use Rattle.transition.specs.declared.Plan.{Plan}
+use Rattle.transition.specs.Plan.{Plan}
 use Rattle.transition.specs.Transition.{searchFrom}
 
 -- An id enters with the same entry, whether its field is short or gives the bound that the short one asks.

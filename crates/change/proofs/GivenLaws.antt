@@ -38,7 +38,7 @@ use Rattle.transition.proofs.Reach.{fit-reached}
 use Rattle.transition.proofs.RuleThreeLaws.{longer-breaks, reach-rule, reach-walked}
 use Rattle.transition.proofs.Search.{PassedFirst, passed-here}
 use Rattle.transition.proofs.Walk.{owners-stay, walked-absent}
-use Rattle.transition.specs.declared.Plan.{Plan}
+use Rattle.transition.specs.Plan.{Plan}
 use Rattle.transition.specs.Reach.{AnyoneBreaks, reach}
 use Rattle.transition.specs.RuleThree.{walkedTo}
 use Rattle.transition.specs.Transition.{longer, placed}

@@ -10,6 +10,8 @@ pub mod AsBefore
 pub mod Granted
 pub mod Histories
 pub mod StageSteps
+pub mod EnterLaws
+pub mod DecideLaws
 pub mod Passing
 pub mod QueryLaws
 pub mod QueriedLaws

@@ -1,34 +1,35 @@
 -- The answer from the verdicts of the stages, and what a request that passes them hands to the search. Assumes nothing.
-use mathlib.Core.Bool.{true}
+use mathlib.Core.Bool.{true, false}
 use mathlib.Core.List.{List}
-use mathlib.Core.Path.{_≡_, sym, ap, _∙_, subst}
+use mathlib.Core.Path.{_≡_, refl, sym, ap, _∙_, subst}
+use native.Mathlib.Decide.{ℕ-discrete}
 use native.Mathlib.Omega.{arith}
-use Prim.Native.Nat.{ℕ, _≤_}
-use Rattle.change.proofs.Answers.{Admitted, admitted, admitted-fit, Gets, refused, accepted, no-slot, no-length, gets, said}
+use Prim.Native.Nat.{ℕ, _≤_, _<_}
+use Rattle.change.proofs.Answers.{Admitted, accepted-continues, admitted, admitted-fit, Gets, refused, accepted, no-slot, no-length, gets, refusal-number, said}
 use Rattle.change.proofs.Stages.{first-tells}
-use Rattle.change.specs.Change.{startPlan, startsOf, searchOf, numberOf, placeOf, newTimetable, timetableOf, answerOf, refuse, answerTo, answer}
-use Rattle.change.specs.Coded.{Holds, GoesInto}
+use Rattle.change.specs.Change.{startPlan, searchOf, answerOf, refuse, answerTo, answer}
+use Rattle.change.specs.Coded.{GoesInto}
+use Rattle.change.specs.Columns.{FoundIn, HandsBack}
 use Rattle.change.specs.declared.Answer.{Answer}
-use Rattle.change.specs.Refused.{FirstStages, sound, enough, whole, in-time}
+use Rattle.change.specs.Refused.{FirstStages, not-sound, sound, enough, whole, in-time}
 use Rattle.change.specs.Stages.{stagesFirst, stagesListed, verdictBefore}
 use Rattle.numbers.proofs.ChainLaws.{split-refused, split-passed}
 use Rattle.numbers.specs.Chain.{firstOf, passed}
+use Rattle.numbers.specs.Chain as chain
 use Rattle.numbers.specs.declared.Refusal.{Refusal}
-use Rattle.numbers.specs.Numbers.{ACCEPTED}
+use Rattle.numbers.specs.Numbers.{ACCEPTED, NOT-SOUND, refusal}
 use Rattle.numbers.specs.declared.Verdict.{Verdict}
 use Rattle.numbers.specs.declared.Verdict.the-variants.{Passed, Refused}
 use Rattle.records.specs.declared.ReadRequest.{ReadRequest}
-use Rattle.records.specs.declared.Request.{Request}
 use Rattle.records.specs.Request.{readRequest}
-use Rattle.timetable.proofs.Sound.{ranged-is}
+use Rattle.timetable.proofs.Sound.{ranged-is, sound-is}
 use Rattle.timetable.specs.declared.Timetable.{Timetable}
 use Rattle.timetable.specs.Sound.{isSound}
 use Rattle.transition.proofs.Search.{Ended, found, missed, exhausted, search-ends}
 use Rattle.transition.specs.Coded.{Ready}
 use Rattle.transition.specs.declared.Ending.{Ending}
 use Rattle.transition.specs.declared.Ending.the-variants.{Found, Missed, Exhausted}
-use Rattle.transition.specs.declared.Plan.{Plan}
-use Rattle.transition.specs.declared.Searched.{Searched}
+use Rattle.transition.specs.Plan.{Plan, Searched}
 use Rattle.transition.specs.Transition.{searchFrom}
 
 -- The length that an ending found.
@@ -47,23 +48,6 @@ found-limit limit plan = at (searchFrom limit 0 plan) (search-ends limit 0 plan)
     at x (missed k l b p h f i) = subst (λ (x : Searched). lengthOf (x .ending) ≤ limit) (sym i) (omega arith)
     at x (exhausted b p i) = subst (λ (x : Searched). lengthOf (x .ending) ≤ limit) (sym i) (omega arith)
 
--- The answer of a search, were this its ending.
-abbrev pub endedAs : Timetable → Request → Searched → Ending → Answer
-endedAs t r s e = record { number = numberOf e; place = placeOf e; tries = s .tries; timetable = timetableOf t r (s .plan) e }
-
-pub answer-ended : (t : Timetable) (r : Request) (s : Searched) (e : Ending) → s .ending ≡ e → answerOf t r s ≡ endedAs t r s e
-unfolding answerOf
-answer-ended t r s e h = ap (endedAs t r s) h
-
--- One that found a length, with its timetable.
-pub answer-found : (t : Timetable) (r : Request) (s : Searched) (n : ℕ) → s .ending ≡ Found n → (starts : List ℕ) → starts ≡ startsOf t r
-    → (u : Timetable) → u ≡ newTimetable r starts n (s .plan) → _≡_ {A = Answer} (record { number = ACCEPTED; place = 0; tries = s .tries; timetable = u }) (answerOf t r s)
-unfolding numberOf placeOf timetableOf
-answer-found t r s n h starts e u p =
-    ap {B = Answer} (λ (x : Timetable). record { number = ACCEPTED; place = 0; tries = s .tries; timetable = x })
-    (p ∙ ap (λ (x : List ℕ). newTimetable r x n (s .plan)) e)
-    ∙ sym (answer-ended t r s (Found n) h)
-
 -- An answer's record goes into the area for which it was decided.
 pub goes-into : (t : Timetable) (s : List ℕ) (area : ℕ) → GoesInto (answer t s area) area
 goes-into t s area = at (answer t s area) (gets t s area)
@@ -73,6 +57,24 @@ goes-into t s area = at (answer t s area) (gets t s area)
     at a (accepted e p k l b q h ps f) z = (p .room, omega (arith, p .range .limit))
     at a (no-slot e p k l b q h f) z = absurd (omega arith)
     at a (no-length e p b) z = absurd (omega arith)
+
+-- A refusal hands back the timetable as given.
+pub hands-back : (t : Timetable) (s : List ℕ) (area : ℕ) → HandsBack t (answer t s area)
+hands-back t s area = at (answer t s area) (gets t s area)
+  where
+    at : (a : Answer) → Gets t s area a → HandsBack t a
+    at a (refused q e l h) n = refl
+    at a (accepted e p k l b q h ps f) n = absurd (n refl)
+    at a (no-slot e p k l b q h f) n = refl
+    at a (no-length e p b) n = refl
+
+-- The timetable in force after a request is sound, as the one before was.
+pub stays-sound : (t : Timetable) (s : List ℕ) (area : ℕ) → isSound t ≡ true → isSound (answer t s area .timetable) ≡ true
+stays-sound t s area h = at (ℕ-discrete (answer t s area .number) ACCEPTED)
+  where
+    at : Dec (answer t s area .number ≡ ACCEPTED) → isSound (answer t s area .timetable) ≡ true
+    at (yes e) = sound-is _ (accepted-continues t s area e .sound)
+    at (no n) = ap isSound (hands-back t s area n) ∙ h
 
 module _ (t : Timetable) (s : List ℕ) (area : ℕ) (read : ReadRequest) (q : read ≡ readRequest s) where
   -- The answer, were this the verdict.
@@ -88,6 +90,18 @@ module _ (t : Timetable) (s : List ℕ) (area : ℕ) (read : ReadRequest) (q : r
   unfolding given verdictBefore
   answer-first r e = answer-given (Refused r) (split-refused (stagesFirst t read area) _ r e)
 
+  -- A timetable that is not sound is refused.
+  pub answer-unsound : isSound t ≡ false → answer t s area ≡ refuse t (refusal NOT-SOUND 0)
+  answer-unsound h = answer-first _ (first-tells t read area .only _ (chain.refused _ (not-sound h)))
+
+  -- A refusal has a number above 0.
+  refused-number : (r : Refusal) → verdictBefore t read area ≡ Refused r → 0 < r .number
+  refused-number r e = refusal-number t s area r (said t s area (Refused r) (ap (λ (y : ReadRequest). verdictBefore t y area) (sym q) ∙ e)) .0
+
+  pub first-number : (r : Refusal) → firstOf (stagesFirst t read area) ≡ Refused r → 0 < r .number
+  unfolding verdictBefore
+  first-number r e = refused-number r (split-refused (stagesFirst t read area) _ r e)
+
   module _ (e : firstOf (stagesFirst t read area) ≡ Passed) (plan : Plan) (p : plan ≡ startPlan t (read .request)) where
     -- What passes them is judged by the stages after them.
     listed-next : verdictBefore t read area ≡ firstOf (stagesListed (plan .entries))
@@ -97,6 +111,9 @@ module _ (t : Timetable) (s : List ℕ) (area : ℕ) (read : ReadRequest) (q : r
     pub answer-listed : (r : Refusal) → firstOf (stagesListed (plan .entries)) ≡ Refused r → answer t s area ≡ refuse t r
     unfolding given
     answer-listed r f = answer-given (Refused r) (listed-next ∙ f)
+
+    pub listed-number : (r : Refusal) → firstOf (stagesListed (plan .entries)) ≡ Refused r → 0 < r .number
+    listed-number r f = refused-number r (listed-next ∙ f)
 
     module _ (f : firstOf (stagesListed (plan .entries)) ≡ Passed) where
       pub answer-searched : (x : Searched) → x ≡ searchFrom (read .request .limit) 0 plan → answer t s area ≡ answerOf t (read .request) x
@@ -114,13 +131,12 @@ module _ (t : Timetable) (s : List ℕ) (area : ℕ) (read : ReadRequest) (q : r
           let fit = admitted-fit t (read .request) area passes in
           subst Ready (sym p) (record { ranged = ranged-is (startPlan t (read .request) .entries) (fit .ranged); unplaced = fit .unplaced })
 
-      pub holds : (x : Searched) → x ≡ searchFrom (read .request .limit) 0 plan → Holds (read .request) x
+      pub holds : (x : Searched) → x ≡ searchFrom (read .request .limit) 0 plan → FoundIn (read .request .slot) (x .ending)
       unfolding lengthOf
-      holds x h = record {
-        slot = passes .range .slot;
-        size = λ n k.
-            omega (arith, found-limit (read .request .limit) plan, ap lengthOf (sym k ∙ ap (λ (y : Searched). y .ending) h), passes .range .limit);
-      }
+      holds x h n k = (
+        passes .range .slot,
+        omega (arith, found-limit (read .request .limit) plan, ap lengthOf (sym k ∙ ap (λ (y : Searched). y .ending) h), passes .range .limit),
+      )
 
 -- What passes the first stages has a sound timetable, and a slot that is not too early.
 pub first-passes : (t : Timetable) (read : ReadRequest) (area : ℕ) → firstOf (stagesFirst t read area) ≡ Passed

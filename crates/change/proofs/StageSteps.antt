@@ -1,7 +1,7 @@
 -- The stages before the search, test by test, as the code makes them. Assumes nothing.
 use borrow.Author.Tests.{lt-ltb, le-ltb, le-leb, lt-leb, eq-eqb, ne-eqb}
 use lib.Dec.{leb, ltb}
-use lib.ListN.{length, length-map, replicate, List·getD-map}
+use lib.ListN.{length, length-map, List·getD-map}
 use lib.Seq.{ext-getD}
 use mathlib.Core.Bool.{Bool, true, false, not}
 use mathlib.Core.List.{List, map}
@@ -18,17 +18,14 @@ use Rattle.numbers.specs.Chain.{refusedAt}
 use Rattle.numbers.specs.declared.Verdict.the-variants.{Passed, Refused}
 use Rattle.numbers.specs.Numbers.{OVERFULL, BEHIND, refusal}
 use Rattle.records.specs.declared.Ask.{Ask}
-use Rattle.records.specs.Request.{askOf}
 use Rattle.slots.specs.Below.{first}
-use Rattle.slots.specs.declared.CoreSlot.{CoreSlot}
 use Rattle.slots.specs.Limits.{IDS, WHOLE}
 use Rattle.slots.specs.Shortfall.{keeps, weightOf}
 use Rattle.timetable.proofs.EntryLaws.{weight-le}
 use Rattle.timetable.proofs.Filling.{Filled}
 use Rattle.timetable.proofs.ScanLaws.{first-more, first-end, first-here}
 use Rattle.timetable.specs.declared.Entry.{Entry}
-use Rattle.timetable.specs.declared.Timetable.{Timetable}
-use Rattle.timetable.specs.Timetable.{absentEntry, noEntry, entryOf, isListed, weight, each, shortfallAt}
+use Rattle.timetable.specs.Timetable.{absentEntry, noEntry, entryOf, isListed, weight}
 
 -- ---- one entry
 
@@ -61,10 +58,6 @@ enter-asked old start ask b s h p q =
     rw (lt-ltb 0 (ask .period) (omega (arith, h))) (λ i. record { period = ask .period; offset = 0; bound = p i; shortfall = q i })
 
 -- ---- all entries
-
--- The entries below an id have entered.
-abbrev pub entered : Timetable → CoreSlot → List Ask → ℕ → List Entry
-entered t slot asks id = each (λ i e. entering (entryOf (t .entries) i) (shortfallAt t i slot) (askOf asks i)) id (replicate IDS noEntry)
 
 -- Once the shortfall of each id is put in, the list is that of the shortfalls.
 pub shortfalls-all : (es : List Entry) → length es ≡ IDS → (n : ℕ) (l : List ℕ) → IDS ≤ n → Filled (λ i. entryOf es i .shortfall) n l → l ≡ shortfallsOf es

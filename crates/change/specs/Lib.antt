@@ -6,3 +6,4 @@ pub mod Queries
 pub mod Queried
 pub mod Controller
 pub mod Coded
+pub mod Columns

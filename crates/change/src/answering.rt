@@ -1,85 +1,63 @@
 // The answer of a search or of a refusal, and its record written to the area. A refusal hands back the timetable as given and touches no byte.
 ghost use lib.ListN.{length};
 ghost use mathlib.Core.Path.{_≡_};
-ghost use Prim.Native.Nat.{_≤_};
-ghost use Rattle.change.specs.Change.{startsOf, newTimetable, answerOf, refuse, outcomeOf, written};
-ghost use Rattle.change.specs.Coded.{GoesInto, Holds};
-ghost use Rattle.slots.specs.Limits.{LAST-SLOT, LONGEST};
+ghost use Rattle.change.specs.Change.{refuse, outcomeOf, written};
+ghost use Rattle.change.specs.Coded.{GoesInto};
+ghost use Rattle.change.specs.Columns.{Decides, HandsBack};
+ghost use Rattle.change.specs.declared.Answer.{Answer};
+ghost use Rattle.numbers.specs.Numbers.{NOT-SOUND, refusal};
 use crate::Answer;
+use crate::Decided;
 use crate::Outcome;
 use numbers::Refusal;
-use records::Request;
-use slots::CoreSlot;
+use records::write::write_answer;
 use timetable::Timetable;
-use transition::Ending;
-use transition::Plan;
-use transition::Searched;
+use timetable::columns;
 
-// A refusal before the search.
-pub fn refuse(t: Timetable, r: Refusal) -> Answer
-    ensures { λ o. ⌜ o ≡ refuse t r ⌝ }
+// The refusal of a timetable that is not sound.
+pub fn not_sound(t: Timetable) -> Answer
+    ensures { λ r. ⌜ r ≡ refuse t (refusal NOT-SOUND 0) ⌝ }
 {
     Answer {
-        number: r.number,
-        place: r.place,
+        number: Refusal::NOT_SOUND,
+        place: 0,
         tries: 0,
         timetable: t,
     }
 }
 
-// The answer of a search, with the starts of the request: the new timetable, or the refusal for want of a schedule.
-pub fn finish(
+// The answer with the timetable in force after what was decided: the new one, whose figures stand in columns, or the one as given.
+pub fn in_force(
     t: Timetable,
-    asked: Request,
+    d: Decided,
+    owners: [u8; Timetable::LONGEST],
+    periods: &[u16; Timetable::IDS],
+    bounds: &[u8; Timetable::IDS],
+    shortfalls: &[u16; Timetable::IDS],
     starts: [u16; Timetable::IDS],
-    found: Searched,
 ) -> Answer
-    requires { ⌜ Holds asked found × (starts ≡ startsOf t asked) ⌝ }
-    ensures { λ r. ⌜ r ≡ answerOf t asked found ⌝ }
+    ensures { λ r. ⌜ ((a : Answer) → HandsBack t a → Decides a d owners (now (periods .entry)) (now (bounds .entry)) (now (shortfalls .entry)) starts → r ≡ a) ⌝ }
 {
-    let ending = found.ending;
-    let tries = found.tries;
-    let plan = found.plan;
-    match ending {
-        Ending::Found(n) => Answer {
-            number: Refusal::ACCEPTED,
-            place: 0,
-            tries,
-            timetable: new_timetable(asked, starts, n, plan),
-        },
-        Ending::Missed(n) => no_schedule(t, Refusal::SLOT_MISSED, n, tries),
-        Ending::Exhausted(n) => no_schedule(t, Refusal::LENGTHS_EXHAUSTED, n, tries),
+    let mut timetable = t;
+    if d.number == Refusal::ACCEPTED {
+        let request = d.slot;
+        let base = d.base;
+        let offsets = d.offsets;
+        let entries = columns::join(periods, &offsets, bounds, shortfalls);
+        timetable = Timetable {
+            request,
+            length: d.length,
+            owners,
+            base,
+            entries,
+            starts,
+        };
     }
-}
-
-// The new timetable: the request slot, the transition, its base, request slot + length, and the starts.
-fn new_timetable(asked: Request, starts: [u16; Timetable::IDS], n: u8, plan: Plan) -> Timetable
-    requires { ⌜ (n ≤ LONGEST) × (asked .slot .0 ≤ LAST-SLOT) ⌝ }
-    ensures { λ r. ⌜ r ≡ newTimetable asked starts n plan ⌝ }
-{
-    let request = asked.slot;
-    let owners = plan.owners;
-    let entries = plan.entries;
-    let base = CoreSlot(request.0 + (n as u64));
-    Timetable {
-        request,
-        length: n,
-        owners,
-        base,
-        entries,
-        starts,
-    }
-}
-
-// The refusal for want of a schedule: its place is the length at which the search ended.
-fn no_schedule(t: Timetable, number: u8, n: u8, tries: u8) -> Answer
-    ensures { λ r. ⌜ r ≡ record { number = number; place = n; tries = tries; timetable = t } ⌝ }
-{
     Answer {
-        number,
-        place: n as usize,
-        tries,
-        timetable: t,
+        number: d.number,
+        place: d.place,
+        tries: d.tries,
+        timetable,
     }
 }
 
@@ -93,7 +71,18 @@ pub fn write(a: Answer, area: &mut [u8]) -> Outcome
     if a.number == Refusal::ACCEPTED {
         let owners = timetable.owners;
         let entries = timetable.entries;
-        bytes = records::write::write_answer(area, timetable.length, owners, entries);
+        let mut periods = [0; Timetable::IDS];
+        let mut offsets = [0; Timetable::IDS];
+        let mut bounds = [0; Timetable::IDS];
+        let mut shortfalls = [0; Timetable::IDS];
+        columns::split(
+            entries,
+            &mut periods,
+            &mut offsets,
+            &mut bounds,
+            &mut shortfalls,
+        );
+        bytes = write_answer(area, timetable.length, &owners, &periods, &offsets);
     }
     Outcome {
         number: a.number,

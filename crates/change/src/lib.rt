@@ -1,11 +1,14 @@
 // The change of a timetable by a request, and the two queries. Nothing is assumed checked: bad input is refused by number.
+ghost use mathlib.Core.Bool.{true};
 ghost use mathlib.Core.Path.{_≡_};
 ghost use Rattle.change.specs.Change.{answer, outcome, areaAfter};
-use numbers::Verdict;
+ghost use Rattle.timetable.specs.Sound.{isSound};
+use slots::CoreSlot;
 use slots::SliceCount;
 use timetable::Timetable;
 
 mod answering; // answering.rt: the answer after the search, and how it is written
+pub mod columns; // columns.rt: the change of a sound timetable, over columns
 pub mod queries; // queries.rt: the owner query and the standing query
 mod before; // before.rt: the stages before the search
 
@@ -15,6 +18,17 @@ pub struct Answer {
     pub place: usize,
     pub tries: u8,
     pub timetable: Timetable,
+}
+
+// What is decided of a request, without the timetable: a number, its place and the lengths searched; and where it is accepted the request slot, the transition's length, the base and the offsets.
+pub struct Decided {
+    pub number: u8,
+    pub place: usize,
+    pub tries: u8,
+    pub slot: CoreSlot,
+    pub length: u8,
+    pub base: CoreSlot,
+    pub offsets: [u8; Timetable::IDS],
 }
 
 // What a request gets: its answer, with the bytes written.
@@ -45,7 +59,18 @@ pub struct StandingAnswer {
 pub fn change(t: Timetable, request: &[u8], area: &mut [u8]) -> Outcome
     ensures { λ r. ⌜ (r ≡ outcome t (now (request .entry)) (now (area .entry))) × (now (area .exit) ≡ areaAfter t (now (request .entry)) (now (area .entry))) ⌝ }
 {
-    let decided = decide(t, request, area.len());
+    if !t.is_sound() {
+        return answering::write(answering::not_sound(t), area);
+    }
+    change_sound(t, request, area)
+}
+
+// The same for a timetable that is known to be sound, which is not tested again: a program that holds only what a change returned, or the empty timetable, has no other.
+pub fn change_sound(t: Timetable, request: &[u8], area: &mut [u8]) -> Outcome
+    requires { ⌜ isSound t ≡ true ⌝ }
+    ensures { λ r. ⌜ (r ≡ outcome t (now (request .entry)) (now (area .entry))) × (now (area .exit) ≡ areaAfter t (now (request .entry)) (now (area .entry))) ⌝ }
+{
+    let decided = decide_sound(t, request, area.len());
     answering::write(decided, area)
 }
 
@@ -53,19 +78,47 @@ pub fn change(t: Timetable, request: &[u8], area: &mut [u8]) -> Outcome
 pub fn decide(t: Timetable, request: &[u8], area: usize) -> Answer
     ensures { λ r. ⌜ r ≡ answer t (now (request .entry)) area ⌝ }
 {
-    let read = records::read::read_request(request);
-    let first = before::verdict_first(t, read, area);
-    if let Verdict::Refused(r) = first {
-        return answering::refuse(t, r);
+    if !t.is_sound() {
+        return answering::not_sound(t);
     }
-    let asked = read.request;
-    let mut starts = [0; Timetable::IDS];
-    let plan = before::start_plan(t, asked, &mut starts);
-    let entries = plan.entries;
-    let listed = before::verdict_listed(entries);
-    if let Verdict::Refused(r) = listed {
-        return answering::refuse(t, r);
-    }
-    let found = transition::lengths::search(plan, asked.limit);
-    answering::finish(t, asked, starts, found)
+    decide_sound(t, request, area)
+}
+
+// The same for a timetable that is known to be sound.
+fn decide_sound(t: Timetable, request: &[u8], area: usize) -> Answer
+    requires { ⌜ isSound t ≡ true ⌝ }
+    ensures { λ r. ⌜ r ≡ answer t (now (request .entry)) area ⌝ }
+{
+    let entries = t.entries;
+    let mut old_periods = [0u16; Timetable::IDS];
+    let mut old_offsets = [0u8; Timetable::IDS];
+    let mut old_bounds = [0u8; Timetable::IDS];
+    let mut old_shortfalls = [0u16; Timetable::IDS];
+    timetable::columns::split(
+        entries,
+        &mut old_periods,
+        &mut old_offsets,
+        &mut old_bounds,
+        &mut old_shortfalls,
+    );
+    let mut owners = [0u8; Timetable::LONGEST];
+    let mut periods = [0u16; Timetable::IDS];
+    let mut bounds = [0u8; Timetable::IDS];
+    let mut shortfalls = [0u16; Timetable::IDS];
+    let mut starts = [0u16; Timetable::IDS];
+    let d = columns::decide(
+        t.base,
+        &old_periods,
+        &old_offsets,
+        &old_bounds,
+        &old_shortfalls,
+        request,
+        area,
+        &mut owners,
+        &mut periods,
+        &mut bounds,
+        &mut shortfalls,
+        &mut starts,
+    );
+    answering::in_force(t, d, owners, &periods, &bounds, &shortfalls, starts)
 }

@@ -61,7 +61,9 @@ pub fn standing_query(t: Timetable, id: u8, slot: CoreSlot) -> StandingAnswer
     if slot.0 < t.request.0 {
         return refuse_standing(Refusal::TOO_EARLY);
     }
-    if !t.lists(id) {
+    let i = id as usize;
+    let e = t.entries[i];
+    if !e.is_listed() {
         return refuse_standing(Refusal::NOT_LISTED);
     }
     standing(t, id, slot)
@@ -72,12 +74,12 @@ fn standing(t: Timetable, id: u8, slot: CoreSlot) -> StandingAnswer
     requires { ⌜ (isSound t ≡ true) × (id < IDS) × (lists t id ≡ true) × (t .request .0 ≤ slot .0) ⌝ }
     ensures { λ r. ⌜ r ≡ standing t id slot ⌝ }
 {
-    let shortfall = t.shortfall_at(id, slot);
-    let slices = t.slices_at(id, slot);
+    let s = t.standing_at(id, slot);
+    let slices = s.slices;
     StandingAnswer {
         number: Refusal::ACCEPTED,
         place: 0,
-        shortfall,
+        shortfall: s.shortfall,
         slices,
     }
 }

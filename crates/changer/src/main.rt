@@ -4,11 +4,13 @@ use frames::stream;
 use numbers::Refusal;
 use timetable::Timetable;
 ghost use lib.ListN.{length};
+ghost use mathlib.Core.Bool.{true};
 ghost use mathlib.Core.Path.{_≡_};
 ghost use Prim.Native.Nat.{_+_, _-_, _^_, _≤_, _<_};
 ghost use Rattle.changer.specs.Answers.{Answered, Answers, requestLine};
 ghost use Rattle.frames.specs.Coded.{LINE-ROOM, Puts};
 ghost use Rattle.frames.specs.Program.{answeredLength};
+ghost use Rattle.timetable.specs.Sound.{isSound};
 
 // The timetable in force, the next request's ordinal, and where the last line ends in the output.
 struct Controller {
@@ -43,15 +45,15 @@ fn run(input: &mut [u8], out: &mut [u8]) -> usize
     stream::flush(out, p.put)
 }
 
-// A request is answered, and its line put into the output.
+// A request is answered, and its line put into the output. The timetable is sound, as the empty one is and each that a change returns, so it is not tested again.
 fn answered(s: Controller, request: &[u8], put: usize, out: &mut [u8]) -> Controller
-    requires { ⌜ (put + LINE-ROOM ≤ length (now out)) × (s .ordinal < 2 ^ 64 - 1) ⌝ }
-    ensures { λ r. ⌜ (r .put ≤ length (now (out .entry))) × Answered s (now (request .entry)) (requestLine s (now (request .entry))) r ⌝ }
+    requires { ⌜ (put + LINE-ROOM ≤ length (now out)) × (s .ordinal < 2 ^ 64 - 1) × (isSound (s .timetable) ≡ true) ⌝ }
+    ensures { λ r. ⌜ (r .put ≤ length (now (out .entry))) × (isSound (r .timetable) ≡ true) × Answered s (now (request .entry)) (requestLine s (now (request .entry))) r ⌝ }
     ensures { λ r. ⌜ Puts (now (out .entry)) put (requestLine s (now (request .entry))) (now (out .exit)) (r .put) ⌝ }
 {
     let t = s.timetable;
     let mut area = [0u8; Timetable::AREA];
-    let o = change::change(t, request, &mut area);
+    let o = change::change_sound(t, request, &mut area);
     let now = o.timetable;
     let size = length_of(o.number, now.length);
     let end = frames::write_line(out, put, s.ordinal, o.number, o.place, o.tries, size);

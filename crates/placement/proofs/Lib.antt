@@ -9,4 +9,5 @@ pub mod RuleFourLaws
 pub mod Table
 pub mod Ranking
 pub mod Asked
+pub mod Sorting
 pub mod Placing

@@ -1,34 +1,38 @@
 -- Placing the demands one by one gives rule 4's placement. Beside places whose periods divide a period, an offset of it is free with all its slots
 -- exactly if its own slot is, so the table of taken slots tells the largest free offset. Assumes nothing.
-use borrow.Author.Tests.{ltb-true}
 use lib.Dec.{eqb}
-use lib.ListN.{drop, getD, length, set, take}
-use lib.Seq.{drop-cons, getD-take, length-take-le}
+use lib.ListN.{drop, getD, length, length-replicate, length-set, replicate, set, take}
+use lib.Seq.{drop-cons, getD-set-other, getD-set-same, getD-take, length-take-le}
 use mathlib.Core.Bool.{Bool, true, false, cond, not, _||_}
 use mathlib.Core.List.{List, [], _∷_, map}
 use mathlib.Core.Logic.{inl, inr}
 use mathlib.Core.Option.{Option, none, some}
 use mathlib.Core.Path.{_≡_, refl, sym, ap, ap₂, _∙_, subst}
+use native.Mathlib.Decide.{ℕ-discrete}
 use native.Mathlib.Nat.{add-mul-mod-self-right, le-div-iff-mul-le, mod-mod-of-dvd}
 use native.Mathlib.Numerals.{add-one}
 use native.Mathlib.Omega.{arith}
 use Prim.Native.Nat.{ℕ, zero, suc, _+_, _*_, _/_, _%_, _≤_, _<_, _∣_}
-use Rattle.placement.proofs.Asked.{listed-range, last-inside}
-use Rattle.placement.proofs.Exchange.{placeAt, Fair}
+use Rattle.placement.proofs.Exchange.{placeAt}
 use Rattle.placement.proofs.Free.{In, Divide}
 use Rattle.placement.proofs.Order.{InOrder, in-order-fair, ordered-in-order}
+use Rattle.placement.proofs.Settle.{length-settle}
+use Rattle.placement.proofs.Sorting.{listed-fair}
 use Rattle.placement.proofs.Table.{clear-below}
+use Rattle.placement.specs.declared.Placed.{Placed}
 use Rattle.placement.specs.declared.taken.Free.{Free}
 use Rattle.placement.specs.declared.taken.Free.the-variants.{At, Nowhere}
-use Rattle.placement.specs.Placed.{placedOf, demandAt, demandsOf, Ranked, Says, lastClear, Finds, TakenToo}
-use Rattle.placement.specs.Placement.{Demand, Place, demandOf, isTaken, allFree, lastFree, placeFrom, placement, settle}
-use Rattle.slots.proofs.Below.{every-all, every-not}
+use Rattle.placement.specs.Placed.{answerOf, demandAt, demandsOf, offsetsOf, placedOf, InOrderOfSome, Ranked, Says, lastClear, Finds, TakenToo}
+use Rattle.placement.specs.Placement.{Demand, Place, isTaken, allFree, lastFree, placeFrom, placement, settle}
+use Rattle.slots.proofs.Below.{every-all, every-not, true-false}
 use Rattle.slots.specs.Limits.{IDS, WHOLE}
+use Rattle.timetable.proofs.ColumnLaws.{columns-are, columns-at, length-columns}
 use Rattle.timetable.proofs.Ranges.{Period, period-dvd, period-is, period-le, period-pos}
+use Rattle.timetable.specs.Columns.{fromColumns, rowOf, unplaced}
 use Rattle.timetable.specs.declared.Entry.{Entry}
 use Rattle.timetable.specs.Marks.{Marks}
-use Rattle.timetable.specs.Sound.{entriesInRange, isPeriod}
-use Rattle.timetable.specs.Timetable.{entryOf, isListed, withOffset}
+use Rattle.timetable.specs.Sound.{isPeriod}
+use Rattle.timetable.specs.Timetable.{entryOf, noEntry, withOffset}
 
 -- ---- one slot tells
 
@@ -88,30 +92,27 @@ module _ (ps : List Place) (p : ℕ) (period : Period p) (divide : Divide ps p) 
 
 -- ---- the demands, one by one
 
--- So far some places are taken and settled, and the rest of the demands, in order, go on from there.
-pub record Reached (es : List Entry) (rest : List Demand) (taken : Marks) (placed : List Entry) : Type 0 where
+-- So far some places are taken and have their offsets, and the rest of the demands, in order, go on from there.
+pub record Reached (all rest : List Demand) (taken : Marks) (offsets : List ℕ) : Type 0 where
   pub places : List Place
   pub says : Says taken places
-  pub settled : placed ≡ settle es places
-  pub onward : placement es ≡ placeFrom places rest
+  pub settled : offsets ≡ offsetsOf places
+  pub onward : placeFrom [] all ≡ placeFrom places rest
   pub order : InOrder rest
   pub divide : (q : Place) (d : Demand) → In q places → In d rest → q .period ∣ d .period
 
 -- At the start no slot is taken.
-pub reached-none : (es : List Entry) → entriesInRange es ≡ true → (ranks : List ℕ) (count : ℕ) → Ranked es ranks count
-    → (taken : Marks) → Says taken [] → Reached es (drop 0 (demandsOf ranks count)) taken es
-unfolding placement settle demandOf
-reached-none es h ranks count k taken s = record {
+pub reached-none : (ranks : List ℕ) (count : ℕ) → InOrderOfSome ranks count → (taken : Marks) → Says taken []
+    → Reached (demandsOf ranks count) (drop 0 (demandsOf ranks count)) taken (replicate IDS 0)
+unfolding offsetsOf
+reached-none ranks count k taken s = record {
   places = [];
   says = s;
   settled = refl;
-  onward = ap (placeFrom []) (sym (k .demands));
-  order = rw (k .demands) (ordered-in-order es IDS fair);
+  onward = refl;
+  order = rw (k .ranked .demands) (ordered-in-order (k .entries) IDS (listed-fair (k .entries) (k .ranged)));
   divide = λ q d m. absurd m;
 }
-  where
-    fair : (i : ℕ) → i < IDS → isListed (entryOf es i) ≡ true → Fair (demandOf es i)
-    fair i l t = let e = listed-range es h i l (ltb-true 0 (entryOf es i .period) t) in (e .period, last-inside (entryOf es i) e, l)
 
 -- The next of the demands.
 drop-map : (i : ℕ) (ss : List ℕ) → drop i (map demandAt ss) ≡ map demandAt (drop i ss)
@@ -119,10 +120,10 @@ drop-map zero ss = refl
 drop-map (suc i) [] = refl
 drop-map (suc i) (s ∷ ss) = drop-map i ss
 
-next-demand : (es : List Entry) (ranks : List ℕ) (count i : ℕ) → Ranked es ranks count → i < count
+next-demand : (ranks : List ℕ) (count i : ℕ) → count ≤ length ranks → i < count
     → drop i (demandsOf ranks count) ≡ demandAt (getD ranks i 0) ∷ drop (i + 1) (demandsOf ranks count)
-next-demand es ranks count i k l =
-    let size : i < length (take count ranks) = omega (arith, length-take-le count ranks (omega (arith, k .size, k .few))) in
+next-demand ranks count i few l =
+    let size : i < length (take count ranks) = omega (arith, length-take-le count ranks few) in
     rw (add-one i, drop-map i (take count ranks), drop-map (suc i) (take count ranks), drop-cons (take count ranks) i 0 size, getD-take count ranks i 0 l)
 
 drop-past : (i : ℕ) (ss : List ℕ) → length ss ≤ i → drop i ss ≡ []
@@ -132,9 +133,9 @@ drop-past (suc i) [] l = refl
 drop-past (suc i) (s ∷ ss) l = drop-past i ss (omega arith)
 
 -- There is none after the last.
-no-demand : (es : List Entry) (ranks : List ℕ) (count i : ℕ) → Ranked es ranks count → count ≤ i → drop i (demandsOf ranks count) ≡ []
-no-demand es ranks count i k l =
-    let size : length (take count ranks) ≤ i = omega (arith, length-take-le count ranks (omega (arith, k .size, k .few))) in
+no-demand : (ranks : List ℕ) (count i : ℕ) → count ≤ length ranks → count ≤ i → drop i (demandsOf ranks count) ≡ []
+no-demand ranks count i few l =
+    let size : length (take count ranks) ≤ i = omega (arith, length-take-le count ranks few) in
     drop-map i (take count ranks) ∙ ap (map demandAt) (drop-past i (take count ranks) size)
 
 -- A demand with no free offset ends it, and one with a free offset takes the largest.
@@ -147,16 +148,7 @@ module _ (ps : List Place) (d : Demand) (rest : List Demand) where
   unfolding placeFrom
   place-next o e = rw (placeFrom, e)
 
--- The answer of a placement, or of none.
-placed-none : (es : List Entry) → placement es ≡ none → placedOf es ≡ record { found = false; entries = es }
-unfolding placedOf
-placed-none es e = rw (placedOf, e)
-
-placed-some : (es : List Entry) (ps : List Place) → placement es ≡ some ps → placedOf es ≡ record { found = true; entries = settle es ps }
-unfolding placedOf
-placed-some es ps e = rw (placedOf, e)
-
-module _ (es : List Entry) (d : Demand) (rest : List Demand) (taken : Marks) (placed : List Entry) (r : Reached es (d ∷ rest) taken placed) where
+module _ (all : List Demand) (d : Demand) (rest : List Demand) (taken : Marks) (offsets : List ℕ) (r : Reached all (d ∷ rest) taken offsets) where
   -- Its last offset is below its period, which is in range.
   pub reached-fair : (isPeriod (d .period) ≡ true) × (d .last < d .period)
   reached-fair = (period-is (d .period) (r .order .0 .0), r .order .0 .1)
@@ -169,23 +161,22 @@ module _ (es : List Entry) (d : Demand) (rest : List Demand) (taken : Marks) (pl
         ∙ clear-free (r .places) (d .period) (r .order .0 .0) (λ q m. r .divide q d m (inl refl)) (d .last)
 
     -- Without an offset for it there is no placement.
-    pub reached-stuck : f ≡ Nowhere → placedOf es ≡ record { found = false; entries = es }
-    reached-stuck e = placed-none es (r .onward ∙ place-stuck (r .places) d rest (as-none _ (sym searched ∙ e)))
+    pub reached-stuck : f ≡ Nowhere → placedOf all ≡ record { found = false; offsets = replicate IDS 0 }
+    unfolding answerOf
+    reached-stuck e = ap answerOf (r .onward ∙ place-stuck (r .places) d rest (as-none _ (sym searched ∙ e)))
 
     module _ (o : ℕ) (e : f ≡ At o) where
       -- An offset for it is below 256,
       pub reached-offset : o < WHOLE
       reached-offset = omega (arith, clear-below (r .places) (l + 1) o (sym (found (r .places) (r .says)) ∙ e), reached-fair, period-le (d .period) (r .order .0 .0))
 
-      -- and with it taken and settled the rest of the demands follow.
-      pub reached-more : (p i : ℕ) (at : Entry) (after : Marks) → p ≡ d .period → i ≡ d .id → at ≡ withOffset o (entryOf es i)
-          → TakenToo taken p o after
-          → Reached es rest after (set placed i at)
-      unfolding settle
-      reached-more p i at after period id entry marked = record {
+      -- and with it taken the rest of the demands follow.
+      pub reached-more : (p i : ℕ) (after : Marks) → p ≡ d .period → i ≡ d .id → TakenToo taken p o after → Reached all rest after (set offsets i o)
+      unfolding offsetsOf
+      reached-more p i after period id marked = record {
         places = placeAt d o ∷ r .places;
         says = rw period at (marked (r .places) (r .says) (d .id));
-        settled = rw (r .settled, entry, id);
+        settled = rw (r .settled, id);
         onward = r .onward ∙ place-next (r .places) d rest o (as-some _ o (sym searched ∙ e));
         order = r .order .2;
         divide = divide;
@@ -197,28 +188,104 @@ module _ (es : List Entry) (d : Demand) (rest : List Demand) (taken : Marks) (pl
               (period-dvd (d .period) (g .period) (r .order .0 .0) (in-order-fair rest (r .order .2) g m .0) (r .order .1 g m .1))
           divide q g (inr n) m = r .divide q g n (inr m)
 
--- Once every demand has its place, the entries are settled.
-pub reached-all : (es : List Entry) (taken : Marks) (placed : List Entry) → Reached es [] taken placed → placedOf es ≡ record { found = true; entries = placed }
-unfolding placeFrom
-reached-all es taken placed r = rw (r .settled) (placed-some es (r .places) (r .onward))
+-- Once every demand has its place, the offsets are those of the places.
+pub reached-all : (all : List Demand) (taken : Marks) (offsets : List ℕ) → Reached all [] taken offsets → placedOf all ≡ record { found = true; offsets = offsets }
+unfolding placeFrom answerOf
+reached-all all taken offsets r = rw (r .settled) (ap answerOf (r .onward))
 
 -- ---- the turns
 
 -- After i turns the first i of the ranks' demands have their places.
-pub record Turn (es : List Entry) (ranks : List ℕ) (count : ℕ) (taken : Marks) (placed : List Entry) (i : ℕ) : Type 0 where
+pub record Turn (ranks : List ℕ) (count : ℕ) (taken : Marks) (offsets : List ℕ) (i : ℕ) : Type 0 where
   pub inside : i ≤ count
-  pub ranked : Ranked es ranks count
-  pub reached : Reached es (drop i (demandsOf ranks count)) taken placed
+  pub few : count ≤ length ranks
+  pub reached : Reached (demandsOf ranks count) (drop i (demandsOf ranks count)) taken offsets
 
 -- The demand of rank i is the next.
-abbrev pub Next : List Entry → List ℕ → ℕ → Marks → List Entry → ℕ → Type 0
-Next es ranks count taken placed i = Reached es (demandAt (getD ranks i 0) ∷ drop (i + 1) (demandsOf ranks count)) taken placed
+abbrev pub Next : List ℕ → ℕ → Marks → List ℕ → ℕ → Type 0
+Next ranks count taken offsets i =
+    Reached (demandsOf ranks count) (demandAt (getD ranks i 0) ∷ drop (i + 1) (demandsOf ranks count)) taken offsets
 
-module _ (es : List Entry) (ranks : List ℕ) (count : ℕ) (taken : Marks) (placed : List Entry) (i : ℕ) (t : Turn es ranks count taken placed i) where
+module _ (ranks : List ℕ) (count : ℕ) (taken : Marks) (offsets : List ℕ) (i : ℕ) (t : Turn ranks count taken offsets i) where
   -- The next turn places the demand of rank i,
-  pub turn-next : i < count → Next es ranks count taken placed i
-  turn-next l = subst (λ (ds : List Demand). Reached es ds taken placed) (next-demand es ranks count i (t .ranked) l) (t .reached)
+  pub turn-next : i < count → Next ranks count taken offsets i
+  turn-next l =
+      subst (λ (ds : List Demand). Reached (demandsOf ranks count) ds taken offsets) (next-demand ranks count i (t .few) l) (t .reached)
 
   -- and the last one was the last demand's.
-  pub turn-last : count ≤ i → Reached es [] taken placed
-  turn-last l = subst (λ (ds : List Demand). Reached es ds taken placed) (no-demand es ranks count i (t .ranked) l) (t .reached)
+  pub turn-last : count ≤ i → Reached (demandsOf ranks count) [] taken offsets
+  turn-last l =
+      subst (λ (ds : List Demand). Reached (demandsOf ranks count) ds taken offsets) (no-demand ranks count i (t .few) l) (t .reached)
+
+-- ---- the entries placed
+
+length-offsets : (ps : List Place) → length (offsetsOf ps) ≡ IDS
+unfolding offsetsOf
+length-offsets [] = length-replicate {A = ℕ} IDS 0
+length-offsets (p ∷ ps) = length-set (offsetsOf ps) (p .id) (p .offset) ∙ length-offsets ps
+
+-- The entries of columns, settled, are those of the columns with the places' offsets.
+settle-columns : (periods bounds shortfalls : List ℕ) (ps : List Place)
+    → settle (unplaced periods bounds shortfalls) ps ≡ fromColumns periods (offsetsOf ps) bounds shortfalls
+unfolding settle offsetsOf
+settle-columns periods bounds shortfalls [] = refl
+settle-columns periods bounds shortfalls (p ∷ ps) =
+    sym
+    (columns-are periods (set (offsetsOf ps) (p .id) (p .offset)) bounds shortfalls (settle es (p ∷ ps)) (length-settle es (p ∷ ps) ∙ size)
+    (λ i k. at (settle-columns periods bounds shortfalls ps) i k (ℕ-discrete i (p .id))))
+  where
+    es : List Entry
+    es = unplaced periods bounds shortfalls
+
+    size : length es ≡ IDS
+    size = length-columns periods (replicate IDS 0) bounds shortfalls
+
+    at : settle es ps ≡ fromColumns periods (offsetsOf ps) bounds shortfalls → (i : ℕ) → i < IDS → Dec (i ≡ p .id)
+        → rowOf periods (set (offsetsOf ps) (p .id) (p .offset)) bounds shortfalls i ≡ entryOf (settle es (p ∷ ps)) i
+    at ih i k (yes e) =
+        rw (
+          ← e,
+          getD-set-same (offsetsOf ps) i (p .offset) 0 (omega (arith, length-offsets ps)),
+          getD-set-same (settle es ps) i (withOffset (p .offset) (entryOf es i)) noEntry (omega (arith, length-settle es ps, size)),
+          columns-at periods (replicate IDS 0) bounds shortfalls i k,
+        )
+    at ih i k (no e) =
+        rw (
+          getD-set-other (offsetsOf ps) (p .id) i (p .offset) 0 e,
+          getD-set-other (settle es ps) (p .id) i (withOffset (p .offset) (entryOf es (p .id))) noEntry e,
+          ih,
+        )
+        (sym (columns-at periods (offsetsOf ps) bounds shortfalls i k))
+
+-- What an answer says of the placement of the entries that columns hold: there is none, or it is this one.
+module _ (periods bounds shortfalls ranks : List ℕ) (count : ℕ) (k : Ranked (unplaced periods bounds shortfalls) ranks count) (a : Placed) (e : a ≡ placedOf (demandsOf ranks count)) where
+  -- The demands' placement is the entries'.
+  whole : placement (unplaced periods bounds shortfalls) ≡ placeFrom [] (demandsOf ranks count)
+  unfolding placement
+  whole = ap (placeFrom []) (sym (k .demands))
+
+  pub placed-none : a .found ≡ false → (placement (unplaced periods bounds shortfalls) ≡ none) × (a .offsets ≡ replicate IDS 0)
+  unfolding answerOf
+  placed-none h = at (placement (unplaced periods bounds shortfalls)) refl
+    where
+      at : (f : Option (List Place)) → placement (unplaced periods bounds shortfalls) ≡ f
+          → (placement (unplaced periods bounds shortfalls) ≡ none) × (a .offsets ≡ replicate IDS 0)
+      at none z = (z, ap (λ (x : Placed). x .offsets) (e ∙ ap answerOf (sym whole ∙ z)))
+      at (some ps) z = absurd (true-false (ap (λ (x : Placed). x .found) (e ∙ ap answerOf (sym whole ∙ z))) h)
+
+  pub placed-some : a .found ≡ true
+      → (ps : List Place) × (placement (unplaced periods bounds shortfalls) ≡ some ps)
+      × (settle (unplaced periods bounds shortfalls) ps ≡ fromColumns periods (a .offsets) bounds shortfalls)
+  unfolding answerOf
+  placed-some h = at (placement (unplaced periods bounds shortfalls)) refl
+    where
+      at : (f : Option (List Place)) → placement (unplaced periods bounds shortfalls) ≡ f
+          → (ps : List Place) × (placement (unplaced periods bounds shortfalls) ≡ some ps)
+          × (settle (unplaced periods bounds shortfalls) ps ≡ fromColumns periods (a .offsets) bounds shortfalls)
+      at none z = absurd (true-false h (ap (λ (x : Placed). x .found) (e ∙ ap answerOf (sym whole ∙ z))))
+      at (some ps) z = (
+        ps,
+        z,
+        settle-columns periods bounds shortfalls ps
+            ∙ ap (λ (x : Placed). fromColumns periods (x .offsets) bounds shortfalls) (sym (e ∙ ap answerOf (sym whole ∙ z))),
+      )

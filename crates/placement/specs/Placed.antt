@@ -1,26 +1,34 @@
 -- Helpers of the contracts in src/: the cyclic placement as the code answers it, and what the code's parts say: a demand as one number, the taken slots as a table.
 use lib.Dec.{ltb}
-use lib.ListN.{getD, length, take}
+use lib.ListN.{getD, length, replicate, set, take}
 use mathlib.Core.Bool.{true, false}
 use mathlib.Core.List.{List, [], _∷_, map}
-use mathlib.Core.Option.{none, some}
+use mathlib.Core.Logic.{_≢_}
+use mathlib.Core.Option.{Option, none, some}
 use mathlib.Core.Path.{_≡_}
 use Prim.Native.Nat.{ℕ, zero, suc, _+_, _*_, _/_, _%_, _≤_, _<_}
 use Rattle.placement.specs.declared.Placed.{Placed}
 use Rattle.placement.specs.declared.taken.Free.{Free}
 use Rattle.placement.specs.declared.taken.Free.the-variants.{At, Nowhere}
-use Rattle.placement.specs.Placement.{Demand, Place, isTaken, ordered, placement, settle}
+use Rattle.placement.specs.Placement.{Demand, Place, isTaken, ordered, placeFrom}
 use Rattle.slots.specs.Limits.{IDS, WHOLE}
 use Rattle.timetable.specs.declared.Entry.{Entry}
 use Rattle.timetable.specs.Marks.{Marks, OfCycle, isMarked}
+use Rattle.timetable.specs.Sound.{entriesInRange}
 
--- The placement of the entries: found, with the entries at the offsets of their places; or not, with the entries as they are.
-unfoldable pub placedOf : List Entry → Placed
-placedOf es =
-    elim (placement es) [
-      | none ↦ record { found = false; entries = es }
-      | some ps ↦ record { found = true; entries = settle es ps }
-    ]
+-- The offsets of the places, by id.
+unfoldable pub offsetsOf : List Place → List ℕ
+offsetsOf [] = replicate IDS 0
+offsetsOf (p ∷ ps) = set (offsetsOf ps) (p .id) (p .offset)
+
+-- The answer of a placement, or of none.
+unfoldable pub answerOf : Option (List Place) → Placed
+answerOf none = record { found = false; offsets = replicate IDS 0 }
+answerOf (some ps) = record { found = true; offsets = offsetsOf ps }
+
+-- The placement of the demands, in this order: found, with the offsets of the places; or not.
+abbrev pub placedOf : List Demand → Placed
+placedOf ds = answerOf (placeFrom [] ds)
 
 -- The demand of a rank. A larger rank is a larger period, then a larger last offset, then a larger id.
 abbrev pub demandAt : ℕ → Demand
@@ -44,6 +52,20 @@ pub record Ranked (es : List Entry) (ranks : List ℕ) (count : ℕ) : Type 0 wh
   pub size : length ranks ≡ IDS
   pub few : count ≤ IDS
   pub demands : demandsOf ranks count ≡ ordered es IDS
+
+-- The same of some entries in range, whichever they are.
+pub record InOrderOfSome (ranks : List ℕ) (count : ℕ) : Type 0 where
+  pub entries : List Entry
+  pub ranged : entriesInRange entries ≡ true
+  pub ranked : Ranked entries ranks count
+
+-- The ids of the first count of the ranks are those of a period, each once.
+pub record Listing (periods : List ℕ) (ranks : List ℕ) (count : ℕ) : Type 0 where
+  pub size : length ranks ≡ IDS
+  pub few : count ≤ IDS
+  pub listed : (j : ℕ) → j < count → 0 < getD periods (getD ranks j 0 % IDS) 0
+  pub once : (j k : ℕ) → j < k → k < count → getD ranks j 0 % IDS ≢ getD ranks k 0 % IDS
+  pub every : (i : ℕ) → i < IDS → 0 < getD periods i 0 → (j : ℕ) × (j < count) × (getD ranks j 0 % IDS ≡ i)
 
 -- The table says of each slot of the cycle what the places say: whether it is taken.
 pub record Says (table : Marks) (ps : List Place) : Type 0 where

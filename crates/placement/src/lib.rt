@@ -1,33 +1,24 @@
 // Cyclic placement: rule 4, docs/RULES.md 4.4. Each listed partition, in order, takes the largest free offset up to its last offset.
-ghost use mathlib.Core.Bool.{true};
 ghost use mathlib.Core.Path.{_≡_};
-ghost use Prim.Native.Nat.{_<_};
-ghost use Rattle.placement.specs.Placed.{placedOf};
-ghost use Rattle.slots.specs.Limits.{WHOLE};
-ghost use Rattle.timetable.specs.Sound.{entriesInRange};
-ghost use Rattle.timetable.specs.Timetable.{withOffset};
-use timetable::Entry;
+ghost use Rattle.placement.specs.Placed.{demandsOf, placedOf, InOrderOfSome};
 use timetable::Timetable;
 
-mod ranks; // ranks.rt: the demands of the listed partitions, in order
+pub mod ranks; // ranks.rt: the demands of the listed partitions, in order
 mod taken; // taken.rt: the slots that are taken
 
-// Whether every listed partition has a place, and the entries, each at its place's offset.
+// Whether every listed partition has a place, and the offsets of the places, by id: all zero where there is no placement.
 pub struct Placed {
     pub found: bool,
-    pub entries: [Entry; Timetable::IDS],
+    pub offsets: [u8; Timetable::IDS],
 }
 
-// The entries at the offsets of their cyclic placement, or unchanged where there is none.
-pub fn place(entries: [Entry; Timetable::IDS]) -> Placed
-    requires { ⌜ entriesInRange entries ≡ true ⌝ }
-    ensures { λ r. ⌜ r ≡ placedOf entries ⌝ }
+// The cyclic placement of the demands, whose ranks stand in order.
+pub fn place(ranks: &[u32; Timetable::IDS], count: usize) -> Placed
+    requires { ⌜ InOrderOfSome (now ranks) count ⌝ }
+    ensures { λ r. ⌜ r ≡ placedOf (demandsOf (now (ranks .entry)) count) ⌝ }
 {
-    let order = ranks::ordered(entries);
-    let ranks = order.ranks;
-    let count = order.count;
     let mut taken = taken::none_taken();
-    let mut placed = entries;
+    let mut offsets = [0; Timetable::IDS];
     let mut i: usize = 0;
     while i < count {
         let rank = ranks[i];
@@ -38,29 +29,14 @@ pub fn place(entries: [Entry; Timetable::IDS]) -> Placed
         ) else {
             return Placed {
                 found: false,
-                entries,
+                offsets: [0; Timetable::IDS],
             };
         };
-        let id = ranks::id(rank);
-        let e = entries[id];
-        placed[id] = at_offset(e, offset);
+        offsets[ranks::id(rank)] = offset as u8;
         i += 1;
     }
     Placed {
         found: true,
-        entries: placed,
-    }
-}
-
-// An entry with another offset.
-fn at_offset(e: Entry, offset: usize) -> Entry
-    requires { ⌜ offset < WHOLE ⌝ }
-    ensures { λ r. ⌜ r ≡ withOffset offset e ⌝ }
-{
-    Entry {
-        period: e.period,
-        offset: offset as u8,
-        bound: e.bound,
-        shortfall: e.shortfall,
+        offsets,
     }
 }

@@ -71,7 +71,7 @@ use Rattle.timetable.specs.Owner.{ownerNumber}
 use Rattle.timetable.specs.Sound.{entriesInRange}
 use Rattle.timetable.specs.Timetable.{ownerAt, slicesAt}
 use Rattle.transition.proofs.Reach.{tries-count}
-use Rattle.transition.specs.declared.Plan.{Plan}
+use Rattle.transition.specs.Plan.{Plan}
 use Rattle.transition.specs.Reach.{isSearched, HasPlacement, PassedOver, SlotBreaks}
 
 -- ---- 1

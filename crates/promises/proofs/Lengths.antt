@@ -29,7 +29,7 @@ use Rattle.transition.proofs.Reach.{fit-reached}
 use Rattle.transition.proofs.Search.{PassedFirst, passed-here}
 use Rattle.transition.proofs.RuleThreeLaws.{goes-kept, longer-breaks}
 use Rattle.transition.proofs.Walk.{step-before, reach-before}
-use Rattle.transition.specs.declared.Plan.{Plan}
+use Rattle.transition.specs.Plan.{Plan}
 use Rattle.transition.specs.Reach.{reach, AnyoneBreaks, PassedOver, HasPlacement, SlotBreaks, CannotReach}
 use Rattle.transition.specs.Transition.{longer}
 

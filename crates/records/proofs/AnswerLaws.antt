@@ -6,11 +6,14 @@ use mathlib.Core.List.{List, [], _∷_, _++_}
 use mathlib.Core.Path.{_≡_, refl}
 use native.Mathlib.Omega.{arith}
 use Prim.Native.Nat.{ℕ, zero, suc, _+_, _*_, _/_, _%_, _≤_}
-use Rattle.records.specs.Answer.{answerRecord, field, entryFields, rising}
+use Rattle.records.proofs.RisingLaws.{rising-same}
+use Rattle.records.specs.Answer.{answerRecord, entryFields, field, offsetIn, rising}
 use Rattle.records.specs.AnswerForm.{listedBelow}
 use Rattle.slots.proofs.Below.{count-most}
 use Rattle.slots.specs.Below.{count}
 use Rattle.slots.specs.Limits.{AREA, IDS, LONGEST}
+use Rattle.timetable.proofs.ColumnLaws.{columns-at}
+use Rattle.timetable.specs.Columns.{fromColumns}
 use Rattle.timetable.specs.declared.Entry.{Entry}
 use Rattle.timetable.specs.Timetable.{entryOf, isListed}
 
@@ -46,3 +49,13 @@ module _ (n : ℕ) (owners : List ℕ) (es : List Entry) where
       let high : length (take n owners) / 256 ≡ 0 = omega (arith, length-take-le n owners enough) in
       let low : length (take n owners) % 256 ≡ n = omega (arith, length-take-le n owners enough) in
       rw (high, low)
+
+-- An answer shows periods and offsets alone: what the other two columns hold does not count.
+pub answer-columns : (size : ℕ) (owners periods offsets bounds shortfalls : List ℕ)
+    → answerRecord size owners (fromColumns periods offsets bounds shortfalls) ≡ answerRecord size owners (fromColumns periods offsets [] [])
+unfolding answerRecord
+answer-columns size owners periods offsets bounds shortfalls =
+    let same : entryFields (fromColumns periods offsets bounds shortfalls) IDS ≡ entryFields (fromColumns periods offsets [] []) IDS =
+    rising-same _ _ IDS
+    (λ i k. rw (offsetIn, columns-at periods offsets bounds shortfalls i k, columns-at periods offsets [] [] i k))
+    in rw same

@@ -9,7 +9,7 @@ use native.Mathlib.Omega.{arith}
 use Prim.Native.Nat.{ℕ, _+_, _*_, _≤_, _<_}
 use Rattle.records.proofs.AnswerLaws.{answer-run, answerHead, offsets-length}
 use Rattle.records.proofs.SetsLaws.{set-then, sets-then}
-use Rattle.records.specs.Answer.{answerRecord, field, entryFields, rising}
+use Rattle.records.specs.Answer.{answerRecord, entryFields, field, offsetIn, rising}
 use Rattle.slots.proofs.Below.{count-most}
 use Rattle.slots.specs.Limits.{IDS, LONGEST}
 use Rattle.timetable.specs.declared.Entry.{Entry}
@@ -29,42 +29,43 @@ module _ (es : List Entry) (n : ℕ) where
   pub offsets-room : length (entryFields es n) ≤ 5 * n
   offsets-room = omega (arith, offsets-length es n, count-most (λ i. isListed (entryOf es i)) n)
 
+-- What an entry adds.
+module _ (es : List Entry) (n : ℕ) (e : Entry) (p : entryOf es n ≡ e) where
   -- A listed id adds its field.
-  offsets-listed : 0 < entryOf es n .period
-      → entryFields es (n + 1) ≡ entryFields es n ++ field 0x12 (n ∷ entryOf es n .offset ∷ [])
+  offsets-listed : 0 < e .period → entryFields es (n + 1) ≡ entryFields es n ++ field 0x12 (n ∷ e .offset ∷ [])
   unfolding rising
-  offsets-listed h = rw (add-one n, entryFields, lt-ltb _ _ h)
+  offsets-listed h = rw (add-one n, entryFields, offsetIn, p, lt-ltb _ _ h)
 
   -- An id that is not listed adds nothing.
-  offsets-same : entryOf es n .period ≤ 0 → entryFields es (n + 1) ≡ entryFields es n
+  offsets-same : e .period ≤ 0 → entryFields es (n + 1) ≡ entryFields es n
   unfolding rising
-  offsets-same h = rw (add-one n, entryFields, le-ltb _ _ h) (append-nil (entryFields es n))
+  offsets-same h = rw (add-one n, entryFields, p, le-ltb _ _ h) (append-nil (entryFields es n))
 
 -- The offsets of the ids below n are stored from `from` on, and `at` is the place after them.
 pub record Stored (l area : List ℕ) (from at : ℕ) (es : List Entry) (n : ℕ) : Type 0 where
   pub content : area ≡ sets l from (entryFields es n)
   pub place : at ≡ from + length (entryFields es n)
 
-module _ (l area : List ℕ) (from at : ℕ) (es : List Entry) (n : ℕ) (s : Stored l area from at es n) where
+module _ (l area : List ℕ) (from at : ℕ) (es : List Entry) (n : ℕ) (s : Stored l area from at es n) (e : Entry) (p : entryOf es n ≡ e) where
   -- One listed id more.
-  pub stored-listed : (m : List ℕ) (k : ℕ) → 0 < entryOf es n .period → k ≡ at + 5
-      → m ≡ sets area at (field 0x12 (n ∷ entryOf es n .offset ∷ [])) → Stored l m from k es (n + 1)
+  pub stored-listed : (m : List ℕ) (k : ℕ) → 0 < e .period → k ≡ at + 5 → m ≡ sets area at (field 0x12 (n ∷ e .offset ∷ []))
+      → Stored l m from k es (n + 1)
   unfolding field
-  stored-listed m k h i e =
-      let o = offsets-listed es n h in
+  stored-listed m k h i q =
+      let o = offsets-listed es n e p h in
       record {
         content =
-            e
-            ∙ ap (λ (x : List ℕ). sets x at (field 0x12 (n ∷ entryOf es n .offset ∷ []))) (s .content)
-            ∙ sets-then l from at (entryFields es n) (field 0x12 (n ∷ entryOf es n .offset ∷ [])) (s .place)
+            q
+            ∙ ap (λ (x : List ℕ). sets x at (field 0x12 (n ∷ e .offset ∷ []))) (s .content)
+            ∙ sets-then l from at (entryFields es n) (field 0x12 (n ∷ e .offset ∷ [])) (s .place)
             ∙ ap (sets l from) (sym o);
-        place = omega (arith, s .place, ap (λ (x : List ℕ). length x) o, length-append (entryFields es n) (field 0x12 (n ∷ entryOf es n .offset ∷ [])));
+        place = omega (arith, s .place, ap (λ (x : List ℕ). length x) o, length-append (entryFields es n) (field 0x12 (n ∷ e .offset ∷ [])));
       }
 
   -- One id more that is not listed.
-  pub stored-same : entryOf es n .period ≤ 0 → Stored l area from at es (n + 1)
+  pub stored-same : e .period ≤ 0 → Stored l area from at es (n + 1)
   stored-same h =
-      let o = offsets-same es n h in
+      let o = offsets-same es n e p h in
       record { content = s .content ∙ ap (sets l from) (sym o); place = omega (arith, s .place, ap (λ (x : List ℕ). length x) o) }
 
 module _ (n : ℕ) (owners : List ℕ) (es : List Entry) (small : n ≤ LONGEST) (enough : n ≤ length owners) where

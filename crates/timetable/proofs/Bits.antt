@@ -1,6 +1,6 @@
 -- The bits of a word, and what the operations on words make of them. Assumes nothing.
 use borrow.Author.Tests.{eq-eqb, le-leb, lt-leb, ne-eqb}
-use lib.Bits.{and-mod, and-shr, bitAnd, bitOr, or-mod, or-shr}
+use lib.Bits.{and-le-l, and-le-r, and-mod, and-shr, bitAnd, bitOr, bitXor, or-add-and, or-mod, or-shr, xor-add-and, xor-self}
 use lib.Count.{leadingZeros, leading-top}
 use lib.Dec.{eqb, leb}
 use lib.Pow.{field, pow-add, pow-lt, pow-mono, pow-pos, shl-shr}
@@ -42,6 +42,24 @@ set-or = each bitOr _||_ or-shr or-mod refl refl refl refl
 
 pub set-and : (a b n : ℕ) → isSet (bitAnd a b) n ≡ isSet a n && isSet b n
 set-and = each bitAnd _&&_ and-shr and-mod refl refl refl refl
+
+-- No bit of two numbers together is set exactly if none of either is,
+pub none-more : (a b : ℕ) → eqb (bitOr a b) 0 ≡ eqb a 0 && eqb b 0
+none-more a b = at (ℕ-discrete a 0) (ℕ-discrete b 0)
+  where
+    at : Dec (a ≡ 0) → Dec (b ≡ 0) → eqb (bitOr a b) 0 ≡ eqb a 0 && eqb b 0
+    at (yes p) (yes q) = rw (p, q) refl
+    at (yes p) (no q) = rw (eq-eqb a 0 p, ne-eqb b 0 q) (ne-eqb (bitOr a b) 0 (λ z. omega (arith, or-add-and a b, and-le-l a b)))
+    at (no p) q = rw (ne-eqb a 0 p) (ne-eqb (bitOr a b) 0 (λ z. omega (arith, or-add-and a b, and-le-r a b)))
+
+-- and none differs exactly if they are the same.
+pub none-differs : (a b : ℕ) → eqb (bitXor a b) 0 ≡ eqb a b
+none-differs a b = at (ℕ-discrete a b)
+  where
+    at : Dec (a ≡ b) → eqb (bitXor a b) 0 ≡ eqb a b
+    at (yes p) = rw p (eq-eqb (bitXor b b) 0 (xor-self b) ∙ sym (eq-eqb b b refl))
+    at (no p) =
+        ne-eqb (bitXor a b) 0 (λ z. omega (arith, xor-add-and a b, and-le-l a b, and-le-r a b)) ∙ sym (ne-eqb a b p)
 
 -- No bit of 0 is set.
 pub set-none : (n : ℕ) → isSet 0 n ≡ false

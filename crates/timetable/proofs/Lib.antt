@@ -16,5 +16,7 @@ pub mod Marks
 pub mod TakenLaws
 pub mod OwnerLaws
 pub mod Filling
+pub mod FitLaws
+pub mod ColumnLaws
 pub mod WalkLaws
 pub mod Shares

@@ -42,6 +42,15 @@ module _ (test : ℕ → Bool) where
   pub scan-ends : (n m : ℕ) → n ≤ m → m ≤ n → every m test ≡ true → true ≡ every n test
   scan-ends n m a b k = let e : n ≡ m = omega arith in sym (ap (λ (x : ℕ). every x test) e ∙ k)
 
+  -- A scan that looks at all of them carries the answer so far: one number more,
+  pub every-next : (m : ℕ) (r s q : Bool) → r ≡ s && q → s ≡ every m test → q ≡ test m → r ≡ every (m + 1) test
+  unfolding every
+  every-next m r s q e h k = rw add-one (e ∙ ap₂ _&&_ h k)
+
+  -- and all.
+  pub every-end : (n m : ℕ) (r : Bool) → n ≤ m → m ≤ n → r ≡ every m test → r ≡ every n test
+  every-end n m r a b h = let e : m ≡ n = omega arith in h ∙ ap (λ (x : ℕ). every x test) e
+
   first-suc : (n : ℕ) → first n test ≡ none → test n ≡ false → first (suc n) test ≡ none
   unfolding first
   first-suc n e h = rw (e, h)

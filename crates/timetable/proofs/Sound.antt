@@ -50,7 +50,7 @@ pub record Sound (t : Timetable) : Type 0 where
 -- ---- entries
 
 -- An entry that is not listed, from its test to what it says and back.
-absent-from : (e : Entry) → isListed e ≡ false → entryAbsent e ≡ true → Absent e
+pub absent-from : (e : Entry) → isListed e ≡ false → entryAbsent e ≡ true → Absent e
 unfolding entryAbsent keeps
 absent-from e l h =
     let a = and-both (eqb (e .offset) 0 && eqb (e .bound) 0) (ltb (e .shortfall) (WHOLE * LARGEST-BOUND)) h in

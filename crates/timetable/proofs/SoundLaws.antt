@@ -9,7 +9,7 @@ use mathlib.Core.Path.{_≡_, refl, sym, ap, _∙_}
 use native.Mathlib.Decide.{ℕ-discrete}
 use native.Mathlib.Omega.{arith}
 use Prim.Native.Nat.{ℕ, zero, suc, _+_, _*_, _≤_, _<_}
-use Rattle.slots.proofs.Below.{and-both, every-at, every-all, true-false}
+use Rattle.slots.proofs.Below.{and-both, every-at, every-all}
 use Rattle.slots.specs.Below.{every}
 use Rattle.slots.specs.Limits.{IDS, LONGEST, WHOLE, LARGEST-BOUND, LAST-SLOT}
 use Rattle.slots.specs.Shortfall.{keeps}
@@ -17,7 +17,8 @@ use Rattle.timetable.proofs.EntryLaws.{unlisted, listed}
 use Rattle.timetable.specs.declared.Entry.{Entry}
 use Rattle.timetable.specs.declared.Timetable.{Timetable}
 use Rattle.timetable.specs.Sound.{requestInRange, lengthInRange, baseAsStated, ownersListed, isPeriod, isBound, entryInRange, entryAbsent, entriesInRange, noneShared, unusedOwnersZero, startInRange, startsInRange, walkArrives, isSound}
-use Rattle.timetable.specs.Timetable.{noEntry, entryOf, startOf, isListed, weight}
+use Rattle.timetable.specs.Timetable.{noEntry, entryOf, isListed, weight}
+use Rattle.timetable.specs.Walk.{weighs}
 
 -- ---- one entry
 
@@ -121,21 +122,22 @@ module _ (e : Entry) where
 
 -- ---- the request slot, the length and the base
 
-module _ (t : Timetable) where
-  abbrev pub placed : Bool
-  placed = requestInRange t && lengthInRange t && baseAsStated t
+module _ (request size base : ℕ) where
+  abbrev pub isPlaced : Bool
+  isPlaced = leb request LAST-SLOT && leb size LONGEST && eqb base (request + size)
 
-  pub placed-late : LAST-SLOT < t .request .0 → placed ≡ false
-  unfolding requestInRange
-  placed-late h = rw (lt-leb (t .request .0) LAST-SLOT h)
+  pub placed-late : LAST-SLOT < request → isPlaced ≡ false
+  placed-late h = rw (lt-leb request LAST-SLOT h)
 
-  pub placed-long : t .request .0 ≤ LAST-SLOT → LONGEST < t .length → placed ≡ false
-  unfolding requestInRange lengthInRange
-  placed-long a h = rw (le-leb (t .request .0) LAST-SLOT a, lt-leb (t .length) LONGEST h)
+  pub placed-long : request ≤ LAST-SLOT → LONGEST < size → isPlaced ≡ false
+  placed-long a h = rw (le-leb request LAST-SLOT a, lt-leb size LONGEST h)
 
-  pub placed-base : t .request .0 ≤ LAST-SLOT → t .length ≤ LONGEST → placed ≡ eqb (t .base .0) (t .request .0 + t .length)
-  unfolding requestInRange lengthInRange baseAsStated
-  placed-base a b = rw (le-leb (t .request .0) LAST-SLOT a, le-leb (t .length) LONGEST b)
+  pub placed-base : request ≤ LAST-SLOT → size ≤ LONGEST → isPlaced ≡ eqb base (request + size)
+  placed-base a b = rw (le-leb request LAST-SLOT a, le-leb size LONGEST b)
+
+  pub placed-length : isPlaced ≡ true → size ≤ LONGEST
+  placed-length h =
+      leb-true size LONGEST (and-both (leb request LAST-SLOT) _ (and-both (leb request LAST-SLOT && leb size LONGEST) _ h .0) .1)
 
 -- ---- the loops' tests
 
@@ -145,14 +147,20 @@ past-end [] i h = refl
 past-end (e ∷ es) zero h = absurd (omega arith)
 past-end (e ∷ es) (suc i) h = past-end es i (omega arith)
 
--- What owners_listed asks of transition slot n.
-abbrev pub ownerTest : Timetable → ℕ → Bool
-ownerTest t n = isListed (entryOf (t .entries) (getD (t .owners) n 0))
+-- What owners_listed asks of transition slot n: an id,
+module _ (owners weights : List ℕ) (n : ℕ) where
+  pub weighs-foreign : IDS ≤ getD owners n 0 → weighs owners weights n ≡ false
+  weighs-foreign h = rw (le-ltb (getD owners n 0) IDS h)
 
-pub owner-foreign : (t : Timetable) (n : ℕ) → length (t .entries) ≡ IDS → IDS ≤ getD (t .owners) n 0 → ownerTest t n ≡ false
-owner-foreign t n l h = ap isListed (past-end (t .entries) (getD (t .owners) n 0) (omega arith))
+  module _ (k : getD owners n 0 < IDS) where
+    -- with a weight.
+    pub weighs-nothing : getD weights (getD owners n 0) 0 ≡ 0 → weighs owners weights n ≡ false
+    weighs-nothing h = rw (lt-ltb (getD owners n 0) IDS k, h) refl
 
--- What entries_in_range asks of id i.
+    pub weighs-some : (getD weights (getD owners n 0) 0 ≡ 0 → ⊥) → weighs owners weights n ≡ true
+    weighs-some h = rw (lt-ltb (getD owners n 0) IDS k) (listed _ h)
+
+-- What entries_fit asks of id i.
 abbrev pub entryTest : List Entry → ℕ → Bool
 entryTest es i = formed (entryOf es i)
 
@@ -161,9 +169,9 @@ pub entry-range : (es : List Entry) (i : ℕ) → entriesInRange es ≡ true →
 unfolding entriesInRange
 entry-range es i h k l = sym (formed-listed (entryOf es i) l) ∙ every-at (entryTest es) IDS h i k
 
--- What take_starts asks of id i.
-abbrev pub startTest : Timetable → ℕ → Bool
-startTest t i = startInRange (entryOf (t .entries) i) (startOf t i)
+-- What entries_fit asks of id i's start.
+abbrev pub startTest : List Entry → List ℕ → ℕ → Bool
+startTest es starts i = startInRange (entryOf es i) (getD starts i 0)
 
 -- What unused_owners_zero asks of place n.
 module _ (owners : List ℕ) (size : ℕ) where
@@ -176,58 +184,50 @@ module _ (owners : List ℕ) (size : ℕ) where
   pub unused-test : (n : ℕ) → size ≤ n → unusedTest n ≡ eqb (getD owners n 0) 0
   unused-test n h = ap (λ (b : Bool). b || eqb (getD owners n 0) 0) (le-ltb n size h)
 
-pub length-known : (t : Timetable) → lengthInRange t ≡ true → t .length ≤ LONGEST
-unfolding lengthInRange
-length-known t h = leb-true (t .length) LONGEST h
-
--- Two tests, of which one fails, or neither.
-pub first-fails : (a b : Bool) → false ≡ a → false ≡ a && b
-first-fails a b h = rw (← h) refl
-
-pub second-fails : (a b : Bool) → false ≡ b → false ≡ a && b
-second-fails true b h = h
-second-fails false b h = refl
-
-pub second-tells : (a b : Bool) → a ≡ true → b ≡ a && b
-second-tells a b h = rw h
-
-pub both-pass : (a b : Bool) → true ≡ a → true ≡ b → true ≡ a && b
-both-pass a b h k = rw (← h, ← k) refl
-
 -- ---- the whole timetable, clause by clause
 
+-- The clauses in the order in which they are tested.
+in-order : (p o e n u s w : Bool) → p && o && e && n && u && s && w ≡ p && (e && n && s) && o && u && w
+in-order false o e n u s w = refl
+in-order true false false n u s w = refl
+in-order true false true false u s w = refl
+in-order true false true true u false w = refl
+in-order true false true true u true w = refl
+in-order true true false n u s w = refl
+in-order true true true false u s w = refl
+in-order true true true true false false w = refl
+in-order true true true true false true w = refl
+in-order true true true true true false w = refl
+in-order true true true true true true w = refl
+
 module _ (t : Timetable) where
-  pub sound-placed : placed t ≡ false → isSound t ≡ false
-  unfolding isSound
-  sound-placed a = rw a
+  abbrev pub placed : Bool
+  placed = isPlaced (t .request .0) (t .length) (t .base .0)
 
-  module _ (a : placed t ≡ true) where
-    pub placed-length : lengthInRange t ≡ true
-    placed-length = and-both (requestInRange t) (lengthInRange t) (and-both (requestInRange t && lengthInRange t) (baseAsStated t) a .0) .1
+  abbrev pub fits : Bool
+  fits = entriesInRange (t .entries) && noneShared (t .entries) && every IDS (startTest (t .entries) (t .starts))
 
-    pub sound-owners : ownersListed t ≡ false → isSound t ≡ false
-    unfolding isSound
-    sound-owners b = rw (a, b)
+  abbrev pub unused : Bool
+  unused = every LONGEST (unusedTest (t .owners) (t .length))
 
-    module _ (b : ownersListed t ≡ true) where
-      pub sound-entries : entriesInRange (t .entries) && noneShared (t .entries) ≡ false → isSound t ≡ false
-      unfolding isSound
-      sound-entries d = at (entriesInRange (t .entries)) (noneShared (t .entries)) refl refl
-        where
-          at : (x y : Bool) → entriesInRange (t .entries) ≡ x → noneShared (t .entries) ≡ y → isSound t ≡ false
-          at false y p q = rw (a, b, p) refl
-          at true false p q = rw (a, b, p, q) refl
-          at true true p q = absurd (true-false (rw (p, q) refl) d)
+  tested : isSound t ≡ (placed && fits && ownersListed t && unused && walkArrives t)
+  unfolding isSound requestInRange lengthInRange baseAsStated unusedOwnersZero startsInRange
+  tested = in-order placed (ownersListed t) (entriesInRange (t .entries)) (noneShared (t .entries)) unused (startsInRange t) (walkArrives t)
 
-      module _ (d : entriesInRange (t .entries) && noneShared (t .entries) ≡ true) where
-        pub sound-unused : every LONGEST (unusedTest (t .owners) (t .length)) ≡ false → isSound t ≡ false
-        unfolding isSound unusedOwnersZero
-        sound-unused u =
-            let f = and-both (entriesInRange (t .entries)) (noneShared (t .entries)) d in
-            rw (a, b, f .0, f .1, u) refl
+  pub sound-placed : placed ≡ false → isSound t ≡ false
+  sound-placed a = rw (tested, a) refl
 
-        pub sound-starts : every LONGEST (unusedTest (t .owners) (t .length)) ≡ true → isSound t ≡ startsInRange t && walkArrives t
-        unfolding isSound unusedOwnersZero
-        sound-starts u =
-            let f = and-both (entriesInRange (t .entries)) (noneShared (t .entries)) d in
-            rw (a, b, f .0, f .1, u) refl
+  module _ (a : placed ≡ true) where
+    pub sound-fits : fits ≡ false → isSound t ≡ false
+    sound-fits b = rw (tested, a, b) refl
+
+    module _ (b : fits ≡ true) where
+      pub sound-owners : ownersListed t ≡ false → isSound t ≡ false
+      sound-owners d = rw (tested, a, b, d) refl
+
+      module _ (d : ownersListed t ≡ true) where
+        pub sound-unused : unused ≡ false → isSound t ≡ false
+        sound-unused u = rw (tested, a, b, d, u) refl
+
+        pub sound-walk : unused ≡ true → isSound t ≡ walkArrives t
+        sound-walk u = rw (tested, a, b, d, u) refl

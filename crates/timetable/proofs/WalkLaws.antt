@@ -1,7 +1,7 @@
 -- The pass of the soundness test over the transition's owners: what each id would be owed at the base without the slots left, slot by slot. Assumes nothing.
 use borrow.Author.Tests.{eq-eqb, eqb-true, ltb-true, ne-eqb}
 use lib.Dec.{eqb}
-use lib.ListN.{getD, length, length-set, set}
+use lib.ListN.{getD, length-set, set}
 use lib.Seq.{getD-set-same, getD-set-other}
 use mathlib.Core.Bool.{Bool, true, false}
 use mathlib.Core.List.{List}
@@ -12,23 +12,18 @@ use native.Mathlib.Nat.{mul-add, mul-le-mul, mul-le-mul-left, mul-suc, mul-zero,
 use native.Mathlib.Numerals.{add-one}
 use native.Mathlib.Omega.{arith}
 use Prim.Native.Nat.{ℕ, zero, suc, _+_, _-_, _*_, _≤_, _<_}
-use Rattle.slots.proofs.Below.{count-most, every-at, true-false}
+use Rattle.slots.proofs.Below.{count-most}
 use Rattle.slots.proofs.Windows.{over-still}
-use Rattle.slots.specs.Below.{count, every}
+use Rattle.slots.specs.Below.{count}
 use Rattle.slots.specs.Limits.{IDS, LONGEST, WHOLE, LARGEST-BOUND}
 use Rattle.slots.specs.Shortfall.{keeps, overSlot, weightOf}
 use Rattle.timetable.proofs.EntryLaws.{weight-le}
-use Rattle.timetable.proofs.Filling.{Filled}
-use Rattle.timetable.proofs.OwnerLaws.{listed-small}
 use Rattle.timetable.proofs.Ranges.{InRange}
-use Rattle.timetable.proofs.ScanLaws.{every-same}
-use Rattle.timetable.proofs.Sound.{Absent, ranged-from}
-use Rattle.timetable.proofs.SoundLaws.{length-known}
+use Rattle.timetable.proofs.Sound.{Absent}
 use Rattle.timetable.specs.declared.Entry.{Entry}
-use Rattle.timetable.specs.declared.Timetable.{Timetable}
-use Rattle.timetable.specs.Sound.{ownersListed, startInRange, startsInRange, walkArrives}
-use Rattle.timetable.specs.Timetable.{entryOf, startOf, isListed, weight, transitionShortfall}
-use Rattle.timetable.specs.Walk.{Walkable, owedAt, Owed, StartsTaken}
+use Rattle.timetable.specs.Sound.{startInRange}
+use Rattle.timetable.specs.Timetable.{isListed, transitionShortfall}
+use Rattle.timetable.specs.Walk.{Holds, Walkable, Walked, owedAt}
 
 -- A shortfall over one slot rises by the weight at most.
 over-most : (b : Bool) (w s : ℕ) → overSlot b w s ≤ s + w
@@ -72,7 +67,7 @@ pub walk-small : (p start n m : ℕ) → start < WHOLE * LARGEST-BOUND → m ≤
 walk-small p start n m a b c = omega (arith, mul-le-mul {n₁ = weightOf p} {m₁ = n} {n₂ = WHOLE} {m₂ = LONGEST} (weight-le p) (omega arith))
 
 -- A start in range is below 256 x 8.
-start-below : (e : Entry) (start : ℕ) → (isListed e ≡ true → InRange e) → (isListed e ≡ false → Absent e) → startInRange e start ≡ true
+pub start-below : (e : Entry) (start : ℕ) → (isListed e ≡ true → InRange e) → (isListed e ≡ false → Absent e) → startInRange e start ≡ true
     → start < WHOLE * LARGEST-BOUND
 unfolding startInRange keeps
 start-below e start f g h = at (isListed e) refl
@@ -81,130 +76,105 @@ start-below e start f g h = at (isListed e) refl
     at true l = omega (arith, ltb-true start (WHOLE * e .bound) (rw l at h), f l .bound-high)
     at false l = omega (arith, eqb-true start (e .shortfall) (rw l at h), g l .below)
 
-pub starts-below : (t : Timetable) → Walkable t → startsInRange t ≡ true → (i : ℕ) → i < IDS → startOf t i < WHOLE * LARGEST-BOUND
-unfolding startsInRange
-starts-below t a h i k =
-    let r = ranged-from (t .entries) (a .entries) in
-    start-below (entryOf (t .entries) i) (startOf t i) (r .listed i k) (r .absent i k) (every-at _ IDS h i k)
-
-module _ (t : Timetable) (i : ℕ) where
-  abbrev pub w : ℕ
-  w = weight (entryOf (t .entries) i)
-
-  abbrev walk : ℕ → ℕ
-  walk n = transitionShortfall (t .owners) i w (startOf t i) n
+-- What an id would be owed at the base without the slots left: at its weight, and from its start.
+module _ (owners : List ℕ) (size i w start : ℕ) where
+  abbrev owed : ℕ → ℕ
+  owed n = owedAt owners size i w start n
 
   -- Before the first slot.
-  pub owed-start : owedAt t i 0 ≡ startOf t i + w * t .length
+  pub owed-start : owed 0 ≡ start + w * size
   unfolding owedAt transitionShortfall
-  owed-start = rw (sub-zero (t .length)) refl
+  owed-start = rw (sub-zero size) refl
 
   -- After the last one it is the walk's shortfall.
-  pub owed-end : owedAt t i (t .length) ≡ walk (t .length)
+  pub owed-end : (n : ℕ) → size ≤ n → n ≤ size → owed n ≡ transitionShortfall owners i w start size
   unfolding owedAt
-  owed-end =
-      let z : t .length - t .length ≡ 0 = omega arith in
-      omega (arith, ap (λ (x : ℕ). w * x) z, mul-zero w)
+  owed-end n a b =
+      let e : n ≡ size = omega arith in
+      let z : size - size ≡ 0 = omega arith in
+      rw e (omega (arith, ap (λ (x : ℕ). w * x) z, mul-zero w))
 
   -- It never rises.
-  pub owed-most : (n : ℕ) → n ≤ t .length → owedAt t i n ≤ startOf t i + w * t .length
+  pub owed-most : (n : ℕ) → n ≤ size → owed n ≤ start + w * size
   unfolding owedAt
   owed-most n l =
-      let z : n + (t .length - n) ≡ t .length = omega arith in
-      omega (arith, walk-most (t .owners) i w (startOf t i) n, mul-add w n (t .length - n), ap (λ (x : ℕ). w * x) z)
+      let z : n + (size - n) ≡ size = omega arith in
+      omega (arith, walk-most owners i w start n, mul-add w n (size - n), ap (λ (x : ℕ). w * x) z)
 
   -- What the slots left after slot n add.
   abbrev pub rest : ℕ → ℕ
-  rest n = w * (t .length - n - 1)
+  rest n = w * (size - n - 1)
 
-  module _ (n : ℕ) (l : n < t .length) where
-    rest-next : w * (t .length - n) ≡ rest n + w
+  module _ (n : ℕ) (l : n < size) where
+    rest-next : w * (size - n) ≡ rest n + w
     rest-next =
-        let z : t .length - n ≡ suc (t .length - n - 1) = omega arith in
-        ap (λ (x : ℕ). w * x) z ∙ mul-suc w (t .length - n - 1)
+        let z : size - n ≡ suc (size - n - 1) = omega arith in
+        ap (λ (x : ℕ). w * x) z ∙ mul-suc w (size - n - 1)
 
-    same-rest : w * (t .length - suc n) ≡ rest n
-    same-rest = let z : t .length - suc n ≡ t .length - n - 1 = omega arith in ap (λ (x : ℕ). w * x) z
+    same-rest : w * (size - suc n) ≡ rest n
+    same-rest = let z : size - suc n ≡ size - n - 1 = omega arith in ap (λ (x : ℕ). w * x) z
 
-    pub rest-le : rest n ≤ owedAt t i n
+    pub rest-le : rest n ≤ owed n
     unfolding owedAt
     rest-le = omega (arith, rest-next)
 
     -- Slot n is taken off what its owner would be owed,
-    pub owed-own : i ≡ getD (t .owners) n 0 → owedAt t i (suc n) ≡ owedAt t i n - rest n - WHOLE + rest n
+    pub owed-own : i ≡ getD owners n 0 → owed (suc n) ≡ owed n - rest n - WHOLE + rest n
     unfolding owedAt transitionShortfall overSlot
-    owed-own o = rw (eq-eqb i (getD (t .owners) n 0) o) (omega (arith, rest-next, same-rest))
+    owed-own o = rw (eq-eqb i (getD owners n 0) o) (omega (arith, rest-next, same-rest))
 
     -- and nothing changes for the others.
-    pub owed-other : i ≢ getD (t .owners) n 0 → owedAt t i (suc n) ≡ owedAt t i n
+    pub owed-other : i ≢ getD owners n 0 → owed (suc n) ≡ owed n
     unfolding owedAt transitionShortfall overSlot
-    owed-other o = rw (ne-eqb i (getD (t .owners) n 0) o) (omega (arith, rest-next, same-rest))
+    owed-other o = rw (ne-eqb i (getD owners n 0) o) (omega (arith, rest-next, same-rest))
 
--- One slot of the pass.
-pub owed-next : (t : Timetable) (n : ℕ) (owed : List ℕ) → n < t .length → getD (t .owners) n 0 < IDS → Owed t n owed
-    → (v x : ℕ) → v ≡ weight (entryOf (t .entries) (getD (t .owners) n 0))
-    → x ≡ getD owed (getD (t .owners) n 0) 0 - v * (t .length - n - 1) - WHOLE + v * (t .length - n - 1)
-    → Owed t (n + 1) (set owed (getD (t .owners) n 0) x)
-owed-next t n owed l ok h v x p e =
-    rw add-one (record { count = length-set owed (getD (t .owners) n 0) x ∙ h .count; each = λ i k. at i k (ℕ-discrete i (getD (t .owners) n 0)) })
-  where
-    o : ℕ
-    o = getD (t .owners) n 0
+-- The pass over the owners, from what each id would be owed before it.
+module _ (owners : List ℕ) (size : ℕ) (weights before : List ℕ) where
+  abbrev w : ℕ → ℕ
+  w i = getD weights i 0
 
-    left : ℕ → ℕ
-    left y = y - rest t o n - WHOLE + rest t o n
+  abbrev start : ℕ → ℕ
+  start i = getD before i 0 - w i * size
 
-    here : x ≡ owedAt t o (suc n)
-    here = (rw p at e) ∙ ap left (h .each o ok) ∙ sym (owed-own t o n l refl)
+  -- A list holds what each id would be owed after n slots.
+  abbrev pub Owed : ℕ → List ℕ → Type 0
+  Owed n owed = Holds (λ i. owedAt owners size i (w i) (start i) n) owed
 
-    at : (i : ℕ) → i < IDS → Dec (i ≡ getD (t .owners) n 0) → getD (set owed (getD (t .owners) n 0) x) i 0 ≡ owedAt t i (suc n)
-    at i k (yes z) = ap (λ (j : ℕ). getD (set owed o x) j 0) z ∙ getD-set-same owed o x 0 (omega (arith, h .count)) ∙ here ∙ ap (λ (j : ℕ). owedAt t j (suc n)) (sym z)
-    at i k (no z) = getD-set-other owed (getD (t .owners) n 0) i x 0 z ∙ h .each i k ∙ sym (owed-other t i n l z)
+  -- Before the first slot
+  pub owed-before : Walkable owners size weights before → Owed 0 before
+  owed-before a = record { count = a .count; each = λ i k. omega (arith, a .enough i k, owed-start owners size i (w i) (start i)) }
 
--- A transition slot's owner is an id.
-pub owner-below : (t : Timetable) → Walkable t → length (t .entries) ≡ IDS → (n : ℕ) → n < t .length → getD (t .owners) n 0 < IDS
-unfolding ownersListed
-owner-below t a len n l = omega (arith, len, listed-small (t .entries) (getD (t .owners) n 0) (every-at _ (t .length) (a .owners) n l))
+  module _ (n : ℕ) (l : n < size) (owed : List ℕ) (h : Owed n owed) where
+    abbrev o : ℕ
+    o = getD owners n 0
 
--- What is taken off is there, and the sums are small.
-module _ (t : Timetable) (a : Walkable t) (b : startsInRange t ≡ true) (n : ℕ) (l : n < t .length) (owed : List ℕ) (h : Owed t n owed)
-    (o : ℕ) (ok : o < IDS) (v : ℕ) (p : v ≡ weight (entryOf (t .entries) o)) where
-  pub rest-there : v * (t .length - n - 1) ≤ getD owed o 0
-  rest-there = omega (arith, ap (λ (x : ℕ). x * (t .length - n - 1)) p, h .each o ok, rest-le t o n l)
+    -- What is taken off is there, and what is there is small.
+    pub rest-there : o < IDS → w o * (size - n - 1) ≤ getD owed o 0
+    rest-there ok = omega (arith, h .each o ok, rest-le owners size o (w o) (start o) n l)
 
-  pub owed-small : getD owed o 0 < 65536
-  owed-small =
-      let small = walk-small (entryOf (t .entries) o .period) (startOf t o) (t .length) (t .length) (starts-below t a b o ok) (length-known t (a .size)) (omega arith) in
-      omega (arith, h .each o ok, owed-most t o n (omega arith), small)
+    pub owed-small : Walkable owners size weights before → o < IDS → getD owed o 0 < 65536
+    owed-small a ok = omega (arith, h .each o ok, owed-most owners size o (w o) (start o) n (omega arith), a .enough o ok, a .small o ok)
 
--- The pass ends with the walk's shortfalls.
-pub owed-tells : (t : Timetable) (n : ℕ) (owed : List ℕ) → t .length ≤ n → n ≤ t .length → Owed t n owed
-    → every IDS (λ i. eqb (getD owed i 0) (entryOf (t .entries) i .shortfall)) ≡ walkArrives t
-unfolding walkArrives
-owed-tells t n owed a b h =
-    every-same _ _ IDS (λ i k. ap (λ (x : ℕ). eqb x (entryOf (t .entries) i .shortfall)) (h .each i k ∙ ap (owedAt t i) (omega arith) ∙ owed-end t i))
+    -- One slot more.
+    pub owed-next : o < IDS → (x : ℕ) → x ≡ getD owed o 0 - w o * (size - n - 1) - WHOLE + w o * (size - n - 1) → Owed (n + 1) (set owed o x)
+    owed-next ok x e = rw add-one (record { count = length-set owed o x ∙ h .count; each = λ i k. at i k (ℕ-discrete i o) })
+      where
+        left : ℕ → ℕ
+        left y = y - w o * (size - n - 1) - WHOLE + w o * (size - n - 1)
 
--- ---- before the first slot
+        now : ℕ → ℕ
+        now i = owedAt owners size i (w i) (start i) (suc n)
 
--- What each id would be owed, once it is put in for all.
-pub unserved-is : (t : Timetable) (i v : ℕ) → v ≡ weight (entryOf (t .entries) i) → startOf t i + v * t .length ≡ owedAt t i 0
-unserved-is t i v p = ap (λ (x : ℕ). startOf t i + x * t .length) p ∙ sym (owed-start t i)
+        here : x ≡ now o
+        here = e ∙ ap left (h .each o ok) ∙ sym (owed-own owners size o (w o) (start o) n l refl)
 
--- The starts are taken where all are in range, and not where one is not.
-pub starts-taken : (t : Timetable) (n : ℕ) (owed : List ℕ) → IDS ≤ n → true ≡ startsInRange t → Filled (λ i. owedAt t i 0) n owed → StartsTaken t true owed
-starts-taken t n owed a e h = record { in-range = e; unserved = λ _. record { count = h .count; each = λ i k. h .below i (omega arith) } }
+        at : (i : ℕ) → i < IDS → Dec (i ≡ o) → getD (set owed o x) i 0 ≡ now i
+        at i k (yes z) = ap (λ (j : ℕ). getD (set owed o x) j 0) z ∙ getD-set-same owed o x 0 (omega (arith, h .count)) ∙ here ∙ ap now (sym z)
+        at i k (no z) = getD-set-other owed o i x 0 z ∙ h .each i k ∙ sym (owed-other owners size i (w i) (start i) n l z)
 
-pub starts-refused : (t : Timetable) (owed : List ℕ) → false ≡ startsInRange t → StartsTaken t false owed
-starts-refused t owed e = record { in-range = e; unserved = λ z. absurd (true-false z refl) }
-
--- Such a sum is small where the start is in range.
-pub unserved-small : (t : Timetable) → Walkable t → (i : ℕ) → i < IDS → startInRange (entryOf (t .entries) i) (startOf t i) ≡ true
-    → (v : ℕ) → v ≡ weight (entryOf (t .entries) i) → startOf t i + v * t .length < 65536
-unserved-small t a i k b v p =
-    let r = ranged-from (t .entries) (a .entries) in
-    let below = start-below (entryOf (t .entries) i) (startOf t i) (r .listed i k) (r .absent i k) b in
-    let small = walk-small (entryOf (t .entries) i .period) (startOf t i) (t .length) (t .length) below (length-known t (a .size)) (omega arith) in
-    omega (arith, ap (λ (x : ℕ). x * t .length) p, small)
+  -- After the last one.
+  pub owed-after : (n : ℕ) (owed : List ℕ) → size ≤ n → n ≤ size → Owed n owed → Walked owners size weights before owed
+  owed-after n owed a b h i k = h .each i k ∙ owed-end owners size i (w i) (start i) n a b
 
 -- ---- slices in the transition
 

@@ -5,3 +5,4 @@ pub mod Owner
 pub mod Marks
 pub mod Taken
 pub mod Walk
+pub mod Columns

@@ -2,12 +2,15 @@
 ghost use mathlib.Core.Path.{_≡_};
 ghost use Rattle.timetable.specs.Timetable.{absentEntry, emptyTimetable};
 use slots::CoreSlot;
+use slots::SliceCount;
 
+pub mod columns; // columns.rt: the entries as columns of numbers
 mod figures; // figures.rt: the figures of one entry
 mod soundness; // soundness.rt: whether a timetable is sound
 mod serving; // serving.rt: whom it lists, whom a slot serves, and each id's shortfall and slices at a slot
 
 pub use figures::over_slot;
+pub use soundness::are_sound;
 pub use soundness::is_bound;
 
 // What a timetable holds for one id. A period of 0 says that the id is not listed.
@@ -40,6 +43,12 @@ pub struct Timetable {
     pub base: CoreSlot,
     pub entries: [Entry; Timetable::IDS],
     pub starts: [u16; Timetable::IDS],
+}
+
+// How an id stands at a slot: its shortfall at the slot's start, and the slices that it has had from the request slot up to there.
+pub struct Standing {
+    pub shortfall: u16,
+    pub slices: SliceCount,
 }
 
 impl Timetable {

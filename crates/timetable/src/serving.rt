@@ -9,22 +9,13 @@ ghost use Rattle.slots.specs.Limits.{IDS, LONGEST};
 ghost use Rattle.timetable.specs.Owner.{ownerNumber};
 ghost use Rattle.timetable.specs.Sound.{entriesInRange, isSound};
 ghost use Rattle.timetable.specs.Timetable.{entryOf, lists, cyclic, ownerAt, shortfallAt, slicesAt, transitionShortfall};
+use crate::Standing;
 use crate::Timetable;
 use crate::figures::over_slot;
 use slots::CoreSlot;
 use slots::SliceCount;
 
 impl Timetable {
-    // Whether an id is listed.
-    pub fn lists(self, id: u8) -> bool
-        requires { ⌜ id < IDS ⌝ }
-        ensures { λ r. ⌜ r ≡ lists self id ⌝ }
-    {
-        let i = id as usize;
-        let e = self.entries[i];
-        e.is_listed()
-    }
-
     // The owner of a slot from the request slot on, or 255 for idle.
     pub fn owner_at(self, x: CoreSlot) -> u8
         requires { ⌜ isSound self ≡ true ⌝ }
@@ -54,35 +45,28 @@ impl Timetable {
         Timetable::IDLE
     }
 
-    // The shortfall of a listed id at the start of a slot from the request slot on.
-    pub fn shortfall_at(self, id: u8, x: CoreSlot) -> u16
+    // How a listed id stands at the start of a slot from the request slot on: its shortfall, and the slices that it has had from the request slot up to there.
+    pub fn standing_at(self, id: u8, x: CoreSlot) -> Standing
         requires { ⌜ (isSound self ≡ true) × (id < IDS) × (lists self id ≡ true) × (self .request .0 ≤ x .0) ⌝ }
-        ensures { λ r. ⌜ r ≡ shortfallAt self id x ⌝ }
+        ensures { λ r. ⌜ (r .shortfall ≡ shortfallAt self id x) × (r .slices ≡ slicesAt self id x) ⌝ }
     {
         let i = id as usize;
         let e = self.entries[i];
         if x.0 < self.base.0 {
             let start = self.starts[i];
             let n = (x.0 - self.request.0) as usize;
-            return transition_shortfall(&self.owners, id, e.weight(), start, n);
+            return Standing {
+                shortfall: transition_shortfall(&self.owners, id, e.weight(), start, n),
+                slices: SliceCount(transition_slices(&self.owners, id, n)),
+            };
         }
-        e.shortfall_after(x.0 - self.base.0)
-    }
-
-    // The slices that a listed id has had from the request slot up to the start of a slot.
-    pub fn slices_at(self, id: u8, x: CoreSlot) -> SliceCount
-        requires { ⌜ (isSound self ≡ true) × (id < IDS) × (lists self id ≡ true) × (self .request .0 ≤ x .0) ⌝ }
-        ensures { λ r. ⌜ r ≡ slicesAt self id x ⌝ }
-    {
-        if x.0 < self.base.0 {
-            let n = (x.0 - self.request.0) as usize;
-            return SliceCount(transition_slices(&self.owners, id, n));
-        }
-        let i = id as usize;
-        let e = self.entries[i];
+        let since = x.0 - self.base.0;
         let before = transition_slices(&self.owners, id, self.length as usize);
-        let since = e.slices_after(x.0 - self.base.0);
-        SliceCount(before + since.0)
+        let slices = e.slices_after(since);
+        Standing {
+            shortfall: e.shortfall_after(since),
+            slices: SliceCount(before + slices.0),
+        }
     }
 }
 

@@ -1,20 +1,23 @@
 // Whether a timetable is sound, clause by clause, whatever its fields hold. Nothing here is refused.
-ghost use lib.Dec.{eqb, ltb};
-ghost use lib.ListN.{getD, length};
+ghost use lib.Dec.{eqb, leb, ltb};
+ghost use lib.ListN.{getD, length as lengthOf};
 ghost use mathlib.Core.Bool.{true, cond, _&&_, _||_};
 ghost use mathlib.Core.Path.{_≡_};
 ghost use Prim.Native.Nat.{_+_, _*_, _≤_, _<_};
 ghost use Rattle.slots.specs.Below.{every};
-ghost use Rattle.slots.specs.Limits.{IDS, LONGEST};
+ghost use Rattle.slots.specs.Limits.{IDS, LAST-SLOT, LONGEST};
 ghost use Rattle.slots.specs.Shortfall.{keeps};
+ghost use Rattle.timetable.specs.Columns.{fromColumns, ofColumns};
 ghost use Rattle.timetable.specs.Marks.{OfCycle, AreSlots};
-ghost use Rattle.timetable.specs.Sound.{requestInRange, lengthInRange, baseAsStated, ownersListed, isPeriod, isBound, entryInRange, entryAbsent, entriesInRange, noneShared, startInRange, startsInRange, walkArrives, isSound};
+ghost use Rattle.timetable.specs.Sound.{isPeriod, isBound, entryInRange, entryAbsent, startInRange, isSound};
 ghost use Rattle.timetable.specs.Taken.{Takes};
-ghost use Rattle.timetable.specs.Timetable.{entryOf, isListed, weight};
-ghost use Rattle.timetable.specs.Walk.{Walkable, Owed, StartsTaken};
+ghost use Rattle.timetable.specs.Timetable.{isListed, weight};
+ghost use Rattle.timetable.specs.Walk.{Fit, weighs, Walkable, Walked};
 use crate::Entry;
 use crate::Timetable;
+use crate::columns;
 use crate::figures::after_own;
+use slots::CoreSlot;
 
 // A word marks this many slots, one bit each: slot n is bit n % 64 of word n / 64.
 const WORD: usize = 64;
@@ -27,138 +30,146 @@ impl Timetable {
     pub fn is_sound(self) -> bool
         ensures { λ r. ⌜ r ≡ isSound self ⌝ }
     {
-        if !self.is_placed() {
+        let entries = self.entries;
+        let starts = self.starts;
+        let mut periods = [0; Timetable::IDS];
+        let mut offsets = [0; Timetable::IDS];
+        let mut bounds = [0; Timetable::IDS];
+        let mut shortfalls = [0; Timetable::IDS];
+        columns::split(
+            entries,
+            &mut periods,
+            &mut offsets,
+            &mut bounds,
+            &mut shortfalls,
+        );
+        are_sound(
+            self.request,
+            self.length,
+            &self.owners,
+            self.base,
+            &periods,
+            &offsets,
+            &bounds,
+            &shortfalls,
+            &starts,
+        )
+    }
+}
+
+// Whether these figures are a sound timetable's, whose entries stand in columns.
+pub fn are_sound(
+    request: CoreSlot,
+    length: u8,
+    owners: &[u8; Timetable::LONGEST],
+    base: CoreSlot,
+    periods: &[u16; Timetable::IDS],
+    offsets: &[u8; Timetable::IDS],
+    bounds: &[u8; Timetable::IDS],
+    shortfalls: &[u16; Timetable::IDS],
+    starts: &[u16; Timetable::IDS],
+) -> bool
+    ensures { λ r. ⌜ r ≡ isSound (ofColumns request length (now (owners .entry)) base (now (periods .entry)) (now (offsets .entry)) (now (bounds .entry)) (now (shortfalls .entry)) (now (starts .entry))) ⌝ }
+{
+    if !is_placed(request.0, length, base.0) {
+        return false;
+    }
+    let mut weights = [0; Timetable::IDS];
+    let mut owed = [0; Timetable::IDS];
+    if !entries_fit(
+        length,
+        periods,
+        offsets,
+        bounds,
+        shortfalls,
+        starts,
+        &mut weights,
+        &mut owed,
+    ) {
+        return false;
+    }
+    let size = length as usize;
+    if !owners_listed(owners, size, &weights) {
+        return false;
+    }
+    if !unused_owners_zero(owners, length) {
+        return false;
+    }
+    walk(owners, size, &weights, &mut owed);
+    are_same(&owed, shortfalls)
+}
+
+// Request slot and length in range, and the base as stated.
+fn is_placed(request: u64, length: u8, base: u64) -> bool
+    ensures { λ r. ⌜ r ≡ (leb request LAST-SLOT && leb length LONGEST && eqb base (request + length)) ⌝ }
+{
+    if Timetable::LAST_SLOT < request {
+        return false;
+    }
+    if Timetable::LONGEST < (length as usize) {
+        return false;
+    }
+    base == request + (length as u64)
+}
+
+// Each listed entry is in range and each other one all zero but for a shortfall below 2,048; each listed id's start is below 256 R, and every other one is the shortfall at the base; and no two share a cyclic slot: each in turn takes its slots of one cycle, and finds none taken. Each one's weight is put in, and what it would be owed at the base if no transition slot were its own: the start, and the weight for each slot.
+fn entries_fit(
+    length: u8,
+    periods: &[u16; Timetable::IDS],
+    offsets: &[u8; Timetable::IDS],
+    bounds: &[u8; Timetable::IDS],
+    shortfalls: &[u16; Timetable::IDS],
+    starts: &[u16; Timetable::IDS],
+    weights: &mut [u16; Timetable::IDS],
+    owed: &mut [u16; Timetable::IDS],
+) -> bool
+    requires { ⌜ (length ≤ LONGEST) × (lengthOf (now weights) ≡ IDS) × (lengthOf (now owed) ≡ IDS) ⌝ }
+    ensures { λ r. ⌜ Fit (fromColumns (now (periods .entry)) (now (offsets .entry)) (now (bounds .entry)) (now (shortfalls .entry))) (now (starts .entry)) length r (now (weights .exit)) (now (owed .exit)) ⌝ }
+{
+    let size = length as u16;
+    let mut taken = [0; WORDS];
+    let mut id: usize = 0;
+    while id < Timetable::IDS {
+        let e = columns::row(periods, offsets, bounds, shortfalls, id);
+        let start = starts[id];
+        if !e.is_well_formed() {
             return false;
         }
-        if !self.owners_listed() {
+        if !e.bears(start) {
             return false;
         }
-        if !self.entries_fit() {
+        if !take_slots(&mut taken, e) {
             return false;
         }
-        if !unused_owners_zero(&self.owners, self.length) {
+        let w = e.weight();
+        weights[id] = w;
+        owed[id] = start + w * size;
+        id += 1;
+    }
+    true
+}
+
+// Each transition slot's owner is an id with a weight.
+fn owners_listed(
+    owners: &[u8; Timetable::LONGEST],
+    size: usize,
+    weights: &[u16; Timetable::IDS],
+) -> bool
+    requires { ⌜ size ≤ LONGEST ⌝ }
+    ensures { λ r. ⌜ r ≡ every size (weighs (now (owners .entry)) (now (weights .entry))) ⌝ }
+{
+    let mut n: usize = 0;
+    while n < size {
+        let owner = owners[n];
+        if (Timetable::IDS as u8) <= owner {
             return false;
         }
-        self.starts_arrive()
-    }
-
-    // Request slot and length in range, and the base as stated.
-    fn is_placed(self) -> bool
-        ensures { λ r. ⌜ r ≡ (requestInRange self && lengthInRange self && baseAsStated self) ⌝ }
-    {
-        if Timetable::LAST_SLOT < self.request.0 {
+        if weights[owner as usize] == 0 {
             return false;
         }
-        if Timetable::LONGEST < (self.length as usize) {
-            return false;
-        }
-        self.base.0 == self.request.0 + (self.length as u64)
+        n += 1;
     }
-
-    // Each transition slot's owner is a listed id.
-    fn owners_listed(self) -> bool
-        requires { ⌜ lengthInRange self ≡ true ⌝ }
-        ensures { λ r. ⌜ r ≡ ownersListed self ⌝ }
-    {
-        let size = self.length as usize;
-        let mut n: usize = 0;
-        while n < size {
-            let owner = self.owners[n] as usize;
-            if Timetable::IDS <= owner {
-                return false;
-            }
-            let e = self.entries[owner];
-            if !e.is_listed() {
-                return false;
-            }
-            n += 1;
-        }
-        true
-    }
-
-    // Each listed entry is in range and each other one all zero but for a shortfall below 2,048, and no two share a cyclic slot: each in turn takes its slots of one cycle, and finds none taken.
-    fn entries_fit(self) -> bool
-        ensures { λ r. ⌜ r ≡ (entriesInRange (self .entries) && noneShared (self .entries)) ⌝ }
-    {
-        let mut taken = [0; WORDS];
-        let mut id: usize = 0;
-        while id < Timetable::IDS {
-            let e = self.entries[id];
-            if !e.is_well_formed() {
-                return false;
-            }
-            if !take_slots(&mut taken, e) {
-                return false;
-            }
-            id += 1;
-        }
-        true
-    }
-
-    // Each start is in range, and the walk of the transition leads from the starts to the shortfalls at the base.
-    fn starts_arrive(self) -> bool
-        requires { ⌜ Walkable self ⌝ }
-        ensures { λ r. ⌜ r ≡ (startsInRange self && walkArrives self) ⌝ }
-    {
-        let mut owed = [0; Timetable::IDS];
-        if !self.take_starts(&mut owed) {
-            return false;
-        }
-        self.walk_arrives(owed)
-    }
-
-    // Each listed id's start is below 256 R, and every other one is the shortfall at the base. Then what each would be owed at the base if no transition slot were its own is put in: the start, and the weight for each slot.
-    fn take_starts(self, owed: &mut [u16; Timetable::IDS]) -> bool
-        requires { ⌜ Walkable self × (length (now owed) ≡ IDS) ⌝ }
-        ensures { λ r. ⌜ StartsTaken self r (now (owed .exit)) ⌝ }
-    {
-        let size = self.length as u16;
-        let mut id: usize = 0;
-        while id < Timetable::IDS {
-            let e = self.entries[id];
-            let start = self.starts[id];
-            if !e.bears(start) {
-                return false;
-            }
-            owed[id] = start + e.weight() * size;
-            id += 1;
-        }
-        true
-    }
-
-    // Walking the transition from the starts gives the shortfalls at the base, in one pass over the owners: each slot is taken off what its owner would be owed at the base without the slots left.
-    fn walk_arrives(self, unserved: [u16; Timetable::IDS]) -> bool
-        requires { ⌜ Walkable self × (startsInRange self ≡ true) × Owed self 0 unserved ⌝ }
-        ensures { λ r. ⌜ r ≡ walkArrives self ⌝ }
-    {
-        let mut owed = unserved;
-        let size = self.length as usize;
-        let mut n: usize = 0;
-        while n < size {
-            let owner = self.owners[n] as usize;
-            let e = self.entries[owner];
-            let rest = e.weight() * ((size - n - 1) as u16);
-            let due = owed[owner] - rest;
-            owed[owner] = after_own(due, rest);
-            n += 1;
-        }
-        self.arrives_at(owed)
-    }
-
-    // Whether these are the shortfalls at the base.
-    fn arrives_at(self, owed: [u16; Timetable::IDS]) -> bool
-        ensures { λ r. ⌜ r ≡ every IDS (λ i. eqb (getD owed i 0) (entryOf (self .entries) i .shortfall)) ⌝ }
-    {
-        let mut id: usize = 0;
-        while id < Timetable::IDS {
-            let e = self.entries[id];
-            if owed[id] != e.shortfall {
-                return false;
-            }
-            id += 1;
-        }
-        true
-    }
+    true
 }
 
 // The owners past the transition are zero.
@@ -166,14 +177,48 @@ fn unused_owners_zero(owners: &[u8; Timetable::LONGEST], size: u8) -> bool
     requires { ⌜ size ≤ LONGEST ⌝ }
     ensures { λ r. ⌜ r ≡ every LONGEST (λ n. ltb n size || eqb (getD (now (owners .entry)) n 0) 0) ⌝ }
 {
+    let mut used: u8 = 0;
     let mut n = size as usize;
     while n < Timetable::LONGEST {
-        if owners[n] != 0 {
-            return false;
-        }
+        used |= owners[n];
         n += 1;
     }
-    true
+    used == 0
+}
+
+// Walks the transition in one pass over its owners: each slot is taken off what its owner would be owed at the base without the slots left.
+fn walk(
+    owners: &[u8; Timetable::LONGEST],
+    size: usize,
+    weights: &[u16; Timetable::IDS],
+    owed: &mut [u16; Timetable::IDS],
+)
+    requires { ⌜ Walkable (now owners) size (now weights) (now owed) ⌝ }
+    ensures { λ _. ⌜ Walked (now (owners .entry)) size (now (weights .entry)) (now (owed .entry)) (now (owed .exit)) ⌝ }
+{
+    let mut n: usize = 0;
+    while n < size {
+        let owner = owners[n] as usize;
+        let rest = weights[owner] * ((size - n - 1) as u16);
+        let due = owed[owner] - rest;
+        owed[owner] = after_own(due, rest);
+        n += 1;
+    }
+}
+
+// Whether these are the shortfalls at the base.
+fn are_same(owed: &[u16; Timetable::IDS], shortfalls: &[u16; Timetable::IDS]) -> bool
+    ensures { λ r. ⌜ r ≡ every IDS (λ i. eqb (getD (now (owed .entry)) i 0) (getD (now (shortfalls .entry)) i 0)) ⌝ }
+{
+    let mut differ: u16 = 0;
+    let mut id: usize = 0;
+    while id < Timetable::IDS {
+        let due = owed[id];
+        let shortfall = shortfalls[id];
+        differ |= due ^ shortfall;
+        id += 1;
+    }
+    differ == 0
 }
 
 impl Entry {

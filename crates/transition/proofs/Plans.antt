@@ -22,7 +22,7 @@ use Rattle.timetable.proofs.Sound.{Absent, Ranged}
 use Rattle.timetable.specs.declared.Entry.{Entry}
 use Rattle.timetable.specs.Timetable.{absentEntry, noEntry, entryOf, isListed, weight}
 use Rattle.transition.proofs.UrgentRule.{Told, told, unmissed, room-bears, own-bears}
-use Rattle.transition.specs.declared.Plan.{Plan}
+use Rattle.transition.specs.Plan.{Plan}
 use Rattle.transition.specs.RuleThree.{GoesTo, MostUrgent}
 use Rattle.transition.specs.Transition.{mostUrgent, isMissed, overEntry, overAll, longer}
 

@@ -14,8 +14,7 @@ use Rattle.slots.specs.Below.{every, count}
 use Rattle.slots.specs.Limits.{LONGEST}
 use Rattle.transition.proofs.Plans.{Fit, Longer, longer-told, step-fit}
 use Rattle.transition.proofs.Search.{PassedFirst, Ended, found, missed, exhausted, search-ends}
-use Rattle.transition.specs.declared.Plan.{Plan}
-use Rattle.transition.specs.declared.Searched.{Searched}
+use Rattle.transition.specs.Plan.{Plan, Searched}
 use Rattle.transition.specs.Reach.{reachFrom, reach, isNone, hasNone, isReached, isSearched}
 use Rattle.transition.specs.Transition.{longer, searchFrom}
 

@@ -23,7 +23,7 @@ use Rattle.transition.proofs.Plans.{Fit, Longer, goes-bears, length-ove
 use Rattle.transition.proofs.Reach.{reach-fit}
 use Rattle.transition.proofs.UrgentRule.{missed-breaks}
 use Rattle.transition.proofs.Walk.{owners-stay, reach-before, step-before, walk-agree, walked}
-use Rattle.transition.specs.declared.Plan.{Plan}
+use Rattle.transition.specs.Plan.{Plan}
 use Rattle.transition.specs.Reach.{AnyoneBreaks, reach}
 use Rattle.transition.specs.RuleThree.{ByRuleThree, GoesTo, MostUrgent, walkedTo}
 use Rattle.transition.specs.Transition.{longer, overAll, overEntry}

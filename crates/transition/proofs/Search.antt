@@ -8,8 +8,7 @@ use native.Mathlib.Omega.{arith}
 use Prim.Native.Nat.{ℕ, zero, suc, _+_, _≤_, _<_}
 use Rattle.placement.specs.Placement.{Place, placement}
 use Rattle.transition.specs.declared.Ending.the-variants.{Found, Missed, Exhausted}
-use Rattle.transition.specs.declared.Plan.{Plan}
-use Rattle.transition.specs.declared.Searched.{Searched}
+use Rattle.transition.specs.Plan.{Plan, Searched}
 use Rattle.transition.specs.Reach.{reachFrom}
 use Rattle.transition.specs.Transition.{longer, ended, passed, placed, searchFrom}
 

@@ -20,7 +20,7 @@ use Rattle.timetable.specs.declared.Entry.{Entry}
 use Rattle.timetable.specs.Timetable.{entryOf, isListed, weight, withShortfall, transitionShortfall}
 use Rattle.transition.proofs.Plans.{Fit, Step, Longer, longer-told, over-at}
 use Rattle.transition.proofs.Reach.{onward, reach-last, reach-fit}
-use Rattle.transition.specs.declared.Plan.{Plan}
+use Rattle.transition.specs.Plan.{Plan}
 use Rattle.transition.specs.Reach.{reachFrom, reach}
 use Rattle.transition.specs.Transition.{longer, overEntry}
 

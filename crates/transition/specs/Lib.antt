@@ -1,3 +1,4 @@
+pub mod Plan
 pub mod Transition
 pub mod Reach
 pub mod Coded

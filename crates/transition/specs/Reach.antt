@@ -13,7 +13,7 @@ use Rattle.slots.specs.Shortfall.{overSlot}
 use Rattle.slots.specs.Slots.{isOwner}
 use Rattle.timetable.specs.declared.Entry.{Entry}
 use Rattle.timetable.specs.Timetable.{entryOf, weight}
-use Rattle.transition.specs.declared.Plan.{Plan}
+use Rattle.transition.specs.Plan.{Plan}
 use Rattle.transition.specs.Transition.{longer}
 
 -- Helper of reach: the plan after k more transition slots by the urgent rule, the first of them number n; none where one was missed.

@@ -13,8 +13,7 @@ use Rattle.timetable.specs.declared.Entry.{Entry}
 use Rattle.timetable.specs.Timetable.{entryOf, isListed, weight, room, each, withShortfall}
 use Rattle.transition.specs.declared.Ending.{Ending}
 use Rattle.transition.specs.declared.Ending.the-variants.{Found, Missed, Exhausted}
-use Rattle.transition.specs.declared.Plan.{Plan}
-use Rattle.transition.specs.declared.Searched.{Searched}
+use Rattle.transition.specs.Plan.{Plan, Searched}
 
 -- A listed id n beside the most urgent one below it: it is more urgent if it has less room, ties to the lower id.
 unfoldable pub moreUrgent : List Entry → ℕ → Option ℕ → Option ℕ

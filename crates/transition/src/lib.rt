@@ -1,15 +1,8 @@
 // The transition: rules 2 and 3, docs/RULES.md 4.2 and 4.3. Lengths are searched one after the other; each further slot goes to the most urgent. Nothing here is refused.
-use timetable::Entry;
 use timetable::Timetable;
 
 pub mod lengths; // lengths.rt: the search of lengths
 mod step; // step.rt: one more transition slot
-
-// What a length has reached: the owners of the transition slots so far, and each id's entry with its shortfall there.
-pub struct Plan {
-    pub owners: [u8; Timetable::LONGEST],
-    pub entries: [Entry; Timetable::IDS],
-}
 
 // How the search of lengths ended.
 pub enum Ending {
@@ -21,21 +14,15 @@ pub enum Ending {
     Exhausted(u8),
 }
 
-// The ending, the number of lengths searched, and the plan: with the offsets placed where the search ended well.
-pub struct Searched {
+// The ending, the number of lengths searched, and the offsets placed, by id: all zero where the search did not end well.
+pub struct SearchEnd {
     pub ending: Ending,
     pub tries: u8,
-    pub plan: Plan,
+    pub offsets: [u8; Timetable::IDS],
 }
 
-// The most urgent listed id, or that nobody is listed.
+// Whom one more slot goes to, or that it goes to nobody.
 pub enum Urgent {
     Id(usize),
     Nobody,
-}
-
-// Whether one more transition slot was given, and the plan with it.
-pub struct Next {
-    pub given: bool,
-    pub plan: Plan,
 }

@@ -1,59 +1,64 @@
 // One more transition slot: to the listed id with the least room, ties to the lower id. Nothing here is refused: a slot that is missed is answered as not given.
+ghost use lib.ListN.{length};
 ghost use mathlib.Core.Bool.{true};
 ghost use mathlib.Core.Path.{_≡_};
-ghost use Prim.Native.Nat.{_*_, _<_};
-ghost use Rattle.slots.specs.Limits.{IDS, LONGEST, WHOLE, LARGEST-BOUND};
-ghost use Rattle.timetable.specs.Sound.{entryInRange, entriesInRange};
-ghost use Rattle.timetable.specs.Timetable.{isListed};
-ghost use Rattle.transition.specs.Coded.{urgentOf, bearsOne, nextOf};
-ghost use Rattle.transition.specs.Transition.{mostUrgent, isMissed, overEntry, overAll, longer};
-use crate::Next;
-use crate::Plan;
+ghost use Prim.Native.Nat.{_<_};
+ghost use Rattle.slots.specs.Limits.{IDS, LONGEST};
+ghost use Rattle.slots.specs.Shortfall.{roomOf, weightOf};
+ghost use Rattle.timetable.specs.Columns.{unplaced};
+ghost use Rattle.timetable.specs.Sound.{entriesInRange, entryInRange, isPeriod};
+ghost use Rattle.transition.specs.Coded.{nextOf, ownerOf, planOf, OverSlot, Rising};
+ghost use Rattle.transition.specs.Transition.{longer};
 use crate::Urgent;
 use timetable::Entry;
 use timetable::Timetable;
 use timetable::over_slot;
 
-// The plan with transition slot n given to the most urgent, or unchanged where it is missed.
-pub fn longer(plan: Plan, n: u8) -> Next
-    requires { ⌜ (entriesInRange (plan .entries) ≡ true) × (n < LONGEST) ⌝ }
-    ensures { λ r. ⌜ r ≡ nextOf plan (longer n plan) ⌝ }
+// Gives transition slot n to the most urgent, or changes nothing where it is missed.
+pub fn longer(
+    periods: &[u16; Timetable::IDS],
+    bounds: &[u8; Timetable::IDS],
+    shortfalls: &mut [u16; Timetable::IDS],
+    owners: &mut [u8; Timetable::LONGEST],
+    n: u8,
+) -> bool
+    requires { ⌜ (length (now shortfalls) ≡ IDS) × (length (now owners) ≡ LONGEST) × (n < LONGEST) ⌝ }
+    requires { ⌜ entriesInRange (unplaced (now periods) (now bounds) (now shortfalls)) ≡ true ⌝ }
+    ensures { λ _. ⌜ (length (now (shortfalls .exit)) ≡ IDS) × (length (now (owners .exit)) ≡ LONGEST) ⌝ }
+    ensures { λ r. ⌜ (r, planOf (now (owners .exit)) (now (periods .entry)) (now (bounds .entry)) (now (shortfalls .exit))) ≡ nextOf (planOf (now (owners .entry)) (now (periods .entry)) (now (bounds .entry)) (now (shortfalls .entry))) (longer n (planOf (now (owners .entry)) (now (periods .entry)) (now (bounds .entry)) (now (shortfalls .entry)))) ⌝ }
 {
-    let entries = plan.entries;
-    let Urgent::Id(u) = most_urgent(entries) else {
-        return Next { given: false, plan };
+    let Urgent::Id(u) = most_urgent(periods, bounds, shortfalls) else {
+        return false;
     };
-    if is_missed(entries, u) {
-        return Next { given: false, plan };
-    }
-    let mut owners = plan.owners;
     owners[n as usize] = u as u8;
-    let over = over_all(entries, u);
-    let next = Plan {
-        owners,
-        entries: over,
-    };
-    Next {
-        given: true,
-        plan: next,
-    }
+    over_all(periods, shortfalls, u);
+    true
 }
 
-// The listed id with the least room, ties to the lower id. No room is as large as that of nobody.
-fn most_urgent(entries: [Entry; Timetable::IDS]) -> Urgent
-    requires { ⌜ entriesInRange entries ≡ true ⌝ }
-    ensures { λ r. ⌜ r ≡ urgentOf (mostUrgent entries IDS) ⌝ }
+// The listed id with the least room, ties to the lower id; or nobody, where none is listed or the slot is missed: another one has no room either. No room
+// is as large as that of nobody.
+fn most_urgent(
+    periods: &[u16; Timetable::IDS],
+    bounds: &[u8; Timetable::IDS],
+    shortfalls: &[u16; Timetable::IDS],
+) -> Urgent
+    requires { ⌜ entriesInRange (unplaced (now periods) (now bounds) (now shortfalls)) ≡ true ⌝ }
+    ensures { λ r. ⌜ r ≡ ownerOf (unplaced (now (periods .entry)) (now (bounds .entry)) (now (shortfalls .entry))) ⌝ }
 {
     let mut urgent = Timetable::IDS;
     let mut least = u16::MAX;
+    let mut pressed: usize = 0;
     let mut id: usize = 0;
     while id < Timetable::IDS {
-        let e = entries[id];
-        if e.is_listed() {
-            let room = e.room();
+        let period = periods[id];
+        if 0 < period {
+            let room = room_of(period, bounds[id], shortfalls[id]);
             if room < least {
                 urgent = id;
                 least = room;
+            }
+            if room == 0 {
+                pressed += 1;
             }
         }
         id += 1;
@@ -61,60 +66,44 @@ fn most_urgent(entries: [Entry; Timetable::IDS]) -> Urgent
     if urgent == Timetable::IDS {
         return Urgent::Nobody;
     }
+    if 1 < pressed {
+        return Urgent::Nobody;
+    }
     Urgent::Id(urgent)
 }
 
-// Whether another listed id than u has no room.
-fn is_missed(entries: [Entry; Timetable::IDS], u: usize) -> bool
-    requires { ⌜ entriesInRange entries ≡ true ⌝ }
-    ensures { λ r. ⌜ r ≡ isMissed entries u ⌝ }
+// The room at a period, a bound and a shortfall.
+fn room_of(period: u16, bound: u8, shortfall: u16) -> u16
+    requires { ⌜ entryInRange (record { period = period; offset = 0; bound = bound; shortfall = shortfall }) ≡ true ⌝ }
+    ensures { λ r. ⌜ r ≡ roomOf period bound shortfall ⌝ }
 {
+    let e = Entry {
+        period,
+        offset: 0,
+        bound,
+        shortfall,
+    };
+    e.room()
+}
+
+// Takes every shortfall over one slot that goes to u: all rise by their weights, and that of u is then paid.
+fn over_all(periods: &[u16; Timetable::IDS], shortfalls: &mut [u16; Timetable::IDS], u: usize)
+    requires { ⌜ Rising (now periods) (now shortfalls) × (u < IDS) ⌝ }
+    ensures { λ _. ⌜ OverSlot (now (periods .entry)) u (now (shortfalls .entry)) (now (shortfalls .exit)) ⌝ }
+{
+    let own = over_slot(true, weight_of(periods[u]), shortfalls[u]);
     let mut id: usize = 0;
     while id < Timetable::IDS {
-        let e = entries[id];
-        if !bears_one(e, id == u) {
-            return true;
-        }
+        shortfalls[id] = over_slot(false, weight_of(periods[id]), shortfalls[id]);
         id += 1;
     }
-    false
+    shortfalls[u] = own;
 }
 
-// Whether an entry gets the slot, is not listed, or has room for it to go elsewhere.
-fn bears_one(e: Entry, own: bool) -> bool
-    requires { ⌜ (isListed e ≡ true → entryInRange e ≡ true) ⌝ }
-    ensures { λ r. ⌜ r ≡ bearsOne e own ⌝ }
+// The weight of a period, 256 / period; 0 for an id that is not listed. A period is a power of two, so a shift divides by it, and 16 zeros shift all away.
+fn weight_of(period: u16) -> u16
+    requires { ⌜ (0 < period → isPeriod period ≡ true) ⌝ }
+    ensures { λ r. ⌜ r ≡ weightOf period ⌝ }
 {
-    if own {
-        return true;
-    }
-    if !e.is_listed() {
-        return true;
-    }
-    0 < e.room()
-}
-
-// Every entry over one slot that goes to u.
-fn over_all(entries: [Entry; Timetable::IDS], u: usize) -> [Entry; Timetable::IDS]
-    requires { ⌜ entriesInRange entries ≡ true ⌝ }
-    ensures { λ r. ⌜ r ≡ overAll entries u ⌝ }
-{
-    let mut over = entries;
-    let mut id: usize = 0;
-    while id < Timetable::IDS {
-        let e = entries[id];
-        over[id] = over_entry(e, id == u);
-        id += 1;
-    }
-    over
-}
-
-// An entry over one slot, its own or not.
-fn over_entry(e: Entry, own: bool) -> Entry
-    requires { ⌜ e .shortfall < WHOLE * LARGEST-BOUND ⌝ }
-    ensures { λ r. ⌜ r ≡ overEntry own e ⌝ }
-{
-    let mut over = e;
-    over.shortfall = over_slot(own, e.weight(), e.shortfall);
-    over
+    ((Timetable::WHOLE as u32) >> u16::trailing_zeros(period)) as u16
 }

@@ -7,9 +7,6 @@ use Rattle.board.proofs.tarnflaw_empty.Tie as tie
 returns : tie.Need-returns
 returns c = empty-refused (c .before .before .args .image .now) (c .if1 .taken)
 
-empty-requires : tie.Need-empty-requires
-empty-requires c κs = search needs
-
 put-image-requires : tie.Need-put-image-requires
 put-image-requires c κs = search needs
 
@@ -18,9 +15,10 @@ same-length c = search needs
 
 returns-2 : tie.Need-returns-2
 returns-2 c =
-    let s = c .before .before .before .before .before .before .before in
-    empty-made (s .args .image .now) (c .before .before .before .before .before .if1 .left) (c .before .before .put-image .last .0) _ (c .before .before .before .empty .ensures) (c .before .before .put-image .ensures)
+    let p = c .before .before .put-image in
+    let i = c .before .before .before .before .before .before .before .before .before .before in
+    empty-made (i .before .before .args .image .now) (i .if1 .left) (p .last .0) (p .ensures)
 
 pub tarnflaw-empty-spec : {M : Type 1} → statement M
 tarnflaw-empty-spec =
-    tie.close (tie.spec returns empty-requires put-image-requires same-length returns-2)
+    tie.close (tie.spec returns put-image-requires same-length returns-2)

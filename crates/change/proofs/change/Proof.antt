@@ -1,22 +1,23 @@
--- `change` decides, and writes what was decided. Assumes nothing.
+-- `change` tests soundness, the first stage, and changes a timetable that is sound. Assumes nothing.
 use borrow.Author.Needs.{needs}
 use denote.Ref.{now}
-use lib.ListN.{length}
-use mathlib.Core.Path.{sym, ap, _∙_, subst}
-use Rattle.change.proofs.Passing.{goes-into}
-use Rattle.change.specs.Change.{outcomeOf, written, outcome, areaAfter}
-use Rattle.change.specs.Coded.{GoesInto}
+use mathlib.Core.Path.{refl, sym, ap, _∙_}
+use native.Mathlib.Omega.{arith}
+use Rattle.change.proofs.Passing.{answer-unsound}
+use Rattle.change.specs.Change.{areaAfter, outcome, outcomeOf, written}
 use Rattle.change.specs.declared.Answer.{Answer}
+use Rattle.timetable.proofs.ScanLaws.{refused, passed}
 use Rattle.change.proofs.change.Statement.{statement}
 use Rattle.change.proofs.change.Tie as tie
 
-decide-requires : tie.Need-decide-requires
-decide-requires c κs = search needs
+is-sound-requires : tie.Need-is-sound-requires
+is-sound-requires c κs = search needs
+
+not-sound-requires : tie.Need-not-sound-requires
+not-sound-requires c κs = search needs
 
 write-requires : tie.Need-write-requires
-write-requires c κs =
-    let a = c .before .before .before .before .args in
-    subst (λ (x : Answer). GoesInto x (length (now (a .area)))) (sym (c .before .decide .ensures)) (goes-into (a .t) (now (a .request)) (length (now (a .area))))
+write-requires c κs z = absurd (omega (arith, z, ap (λ (x : Answer). x .number) (c .before .not-sound .ensures)))
 
 same-length : tie.Need-same-length
 same-length c = search needs
@@ -25,9 +26,30 @@ returns : tie.Need-returns
 unfolding outcome areaAfter
 returns c =
     let w = c .before .before in
-    let d = w .before .before in
-    let a = d .before .before .before .args in
-    (w .write .ensures .0 ∙ ap outcomeOf (d .decide .ensures), w .write .ensures .1 ∙ ap (λ (x : Answer). written x (now (a .area))) (d .decide .ensures))
+    let n = w .before .before in
+    let i = n .before in
+    let a = c .before .before .before .before .before .before .before .before .before .args in
+    let e = n .not-sound .ensures ∙ sym (answer-unsound (a .t) _ _ _ refl (refused _ _ (i .before .is-sound .ensures) (i .if1 .taken))) in
+    (w .write .ensures .0 ∙ ap outcomeOf e, w .write .ensures .1 ∙ ap (λ (x : Answer). written x (now (a .area))) e)
+
+change-sound-requires : tie.Need-change-sound-requires
+change-sound-requires c κs = passed _ _ (c .before .before .is-sound .ensures) (c .before .if1 .left)
+
+same-length-2 : tie.Need-same-length-2
+same-length-2 c = search needs
+
+returns-2 : tie.Need-returns-2
+returns-2 c = search needs
 
 pub change-spec : {M : Type 1} → statement M
-change-spec = tie.close (tie.spec decide-requires write-requires same-length returns)
+change-spec =
+    tie.close
+    (tie.spec
+    is-sound-requires
+    not-sound-requires
+    write-requires
+    same-length
+    returns
+    change-sound-requires
+    same-length-2
+    returns-2)

@@ -1,9 +1,10 @@
--- `changer::run` meets its contract. The invariant: the places lie inside their buffers, which keep their lengths, and as many requests were answered as the ordinal counts. The measure is how many ordinals are left.
+-- `changer::run` meets its contract. The invariant: the places lie inside their buffers, which keep their lengths, as many requests were answered as the ordinal counts, and the timetable is sound. The measure is how many ordinals are left.
 -- Assumes nothing.
 use borrow.Author.Needs.{needs}
 use lib.ListN.{length}
+use mathlib.Core.Bool.{true}
 use mathlib.Core.Logic.{⊎-elim}
-use mathlib.Core.Path.{_≡_, refl}
+use mathlib.Core.Path.{_≡_, refl, ap, _∙_}
 use native.Mathlib.Omega.{arith}
 use Prim.Native.Nat.{suc, _-_, _^_, _≤_}
 use Rattle.changer.specs.Answers.{Answered, startController}
@@ -11,13 +12,15 @@ use Rattle.changer.specs.declared.Controller.{Controller}
 use Rattle.frames.proofs.RunLaws.{Stood, begins, one-more}
 use Rattle.frames.specs.Buffers.{Inside}
 use Rattle.frames.specs.Coded.{Puts}
+use Rattle.timetable.proofs.InForce.{empty-sound}
+use Rattle.timetable.specs.Sound.{isSound}
 use Rattle.changer.proofs.run.Statement.{statement}
 use Rattle.changer.proofs.run.Tie as tie
 
 abbrev Inv-loop : tie.InvT-loop
 Inv-loop input₀ out₀ s₀ p₀ input out s p =
     Inside p (length input) (length out) × (length input ≡ length input₀) × (length out ≡ length out₀) × (1 ≤ s .ordinal) × (s .ordinal ≤ 2 ^ 64 - 1)
-    × Stood Controller Answered Puts startController p₀ input₀ out₀ s p input out (s .ordinal - 1)
+    × Stood Controller Answered Puts startController p₀ input₀ out₀ s p input out (s .ordinal - 1) × (isSound (s .timetable) ≡ true)
 
 abbrev μ-loop : tie.MeasureT-loop
 μ-loop input₀ out₀ s₀ p₀ input out s p = 2 ^ 64 - 1 - s .ordinal
@@ -32,7 +35,7 @@ loop-holds : tie.Need-loop-holds Inv-loop μ-loop
 loop-holds c =
     let begin = c .before .before .before .before in
     let empty = begin .before .before .before in
-    (begin .next-frame .ensures .0, refl, refl, omega arith, omega arith, rw (empty .empty .ensures) (begins Controller Answered Puts startController))
+    (begin .next-frame .ensures .0, refl, refl, omega arith, omega arith, rw (empty .empty .ensures) (begins Controller Answered Puts startController), ap isSound (empty .empty .ensures) ∙ empty-sound)
 
 add-content : tie.Need-add-content Inv-loop μ-loop
 add-content c =
@@ -61,7 +64,8 @@ part-answered-end c =
 answered-requires : tie.Need-answered-requires Inv-loop μ-loop
 answered-requires c κs =
     let goes = c .before .before .before .before in
-    (goes .before .before .before .loop .inv .0 .whole (goes .if2 .taken) .1, omega (arith, goes .before .if1 .taken))
+    let l = goes .before .before .before .loop in
+    (l .inv .0 .whole (goes .if2 .taken) .1, omega (arith, goes .before .if1 .taken), l .inv .6)
 
 next-frame-requires-2 : tie.Need-next-frame-requires-2 Inv-loop μ-loop
 next-frame-requires-2 c κs =
@@ -79,7 +83,7 @@ loop-again c =
     let done = next .before .before .before .before .before in
     let goes = done .before .before .before .before .before in
     let q = goes .before .before .before .loop in
-    let rises = done .answered .ensures .0 .1 .ordinal in
+    let rises = done .answered .ensures .0 .2 .ordinal in
     let below = goes .before .if1 .taken in
     let low = q .inv .3 in
     let n : done .answered .result .ordinal - 1 ≡ suc (q .s .ordinal - 1) = omega arith in (
@@ -88,7 +92,8 @@ loop-again c =
       search needs,
       omega arith,
       omega arith,
-      one-more Controller Answered Puts startController (q .inv .5) (goes .if2 .taken) (q .inv .0) (done .answered .ensures .0 .1) (done .answered .ensures .1) (next .next-frame2 .ensures .1) _ n,
+      one-more Controller Answered Puts startController (q .inv .5) (goes .if2 .taken) (q .inv .0) (done .answered .ensures .0 .2) (done .answered .ensures .1) (next .next-frame2 .ensures .1) _ n,
+      done .answered .ensures .0 .1,
     )
 
 flush-requires : tie.Need-flush-requires Inv-loop μ-loop

@@ -1,32 +1,34 @@
 -- The invariant: the entries of the ids below `id` are stored one behind the other. Assumes nothing.
 use lib.ListN.{length}
 use lib.Seq.{sets}
-use mathlib.Core.Path.{_≡_, refl, _∙_}
+use mathlib.Core.Path.{_≡_, refl, sym, ap, _∙_}
 use native.Mathlib.Omega.{arith}
-use Prim.Native.Nat.{_-_, _≤_}
+use Prim.Native.Nat.{_+_, _-_, _*_, _≤_}
 use Rattle.board.proofs.StoreLaws.{entry-length, rising-next}
-use Rattle.board.specs.Image.{ENTRIES-AT, ENTRY, entriesBytes}
+use Rattle.board.specs.Image.{ENTRIES-AT, ENTRY, entriesBytes, entryBytes}
 use Rattle.records.specs.Answer.{rising}
 use Rattle.slots.specs.Limits.{IDS}
+use Rattle.timetable.proofs.ColumnLaws.{columns-at}
+use Rattle.timetable.specs.Columns.{fromColumns}
+use Rattle.timetable.specs.declared.Entry.{Entry}
 use Rattle.timetable.specs.Timetable.{entryOf}
 use Rattle.board.proofs.image.put_entries.Statement.{statement}
 use Rattle.board.proofs.image.put_entries.Tie as tie
 
 abbrev Inv-loop : tie.InvT-loop
-Inv-loop image₀ entries id₀ image id = (id ≤ IDS) × (length image ≡ length image₀) × (image ≡ sets image₀ ENTRIES-AT (entriesBytes entries id))
+Inv-loop image₀ periods offsets bounds shortfalls id₀ image id =
+    (id ≤ IDS) × (length image ≡ length image₀)
+    × (image ≡ sets image₀ ENTRIES-AT (entriesBytes (fromColumns periods offsets bounds shortfalls) id))
 
 abbrev μ-loop : tie.MeasureT-loop
-μ-loop image₀ entries id₀ image id = IDS - id
+μ-loop image₀ periods offsets bounds shortfalls id₀ image id = IDS - id
 
 loop-holds : tie.Need-loop-holds Inv-loop μ-loop
 unfolding rising
 loop-holds c = (omega arith, refl, refl)
 
-mul-e : tie.Need-mul-e Inv-loop μ-loop
-mul-e c = omega arith
-
-array-copy-out-e : tie.Need-array-copy-out-e Inv-loop μ-loop
-array-copy-out-e c = omega arith
+row-requires : tie.Need-row-requires Inv-loop μ-loop
+row-requires c κs = omega arith
 
 mul-put-entry : tie.Need-mul-put-entry Inv-loop μ-loop
 mul-put-entry c = omega arith
@@ -46,11 +48,15 @@ loop-less c = omega arith
 loop-again : tie.Need-loop-again Inv-loop μ-loop
 loop-again c =
     let p = c .before .before .put-entry in
+    let r = c .before .before .before .before .row in
     let l = c .before .before .before .before .before .before .loop in
-    let s = c .before .before .before .before .before .before .before .before in (
+    let a = c .before .before .before .before .before .before .before .before .args in
+    let es = fromColumns (a .periods .now) (a .offsets .now) (a .bounds .now) (a .shortfalls .now) in
+    let e = r .ensures ∙ sym (columns-at (a .periods .now) (a .offsets .now) (a .bounds .now) (a .shortfalls .now) (l .id) (omega arith)) in (
       omega arith,
       p .kept .0 ∙ l .inv .1,
-      rising-next _ ENTRY (λ i. entry-length (entryOf (s .args .t2) i)) (s .args .image .now) (l .image) (p .last .0) ENTRIES-AT _ (l .id) refl (l .inv .2) (p .ensures),
+      rising-next _ ENTRY (λ i. entry-length (entryOf es i)) (a .image .now) (l .image) (p .last .0) ENTRIES-AT _ (l .id) refl (l .inv .2)
+          (p .ensures ∙ ap (λ (x : Entry). sets (l .image) (ENTRIES-AT + ENTRY * l .id) (entryBytes x)) e),
     )
 
 same-length : tie.Need-same-length Inv-loop μ-loop
@@ -68,8 +74,7 @@ put-entries-spec =
     Inv-loop
     μ-loop
     loop-holds
-    mul-e
-    array-copy-out-e
+    row-requires
     mul-put-entry
     add-put-entry
     put-entry-requires

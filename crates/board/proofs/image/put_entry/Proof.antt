@@ -7,11 +7,8 @@ use Rattle.board.proofs.StoreLaws.{entry-stored}
 use Rattle.board.proofs.image.put_entry.Statement.{statement}
 use Rattle.board.proofs.image.put_entry.Tie as tie
 
-cast-put-number : tie.Need-cast-put-number
-cast-put-number c = search needs
-
-put-number-requires : tie.Need-put-number-requires
-put-number-requires c κs = search needs
+put-short-requires : tie.Need-put-short-requires
+put-short-requires c κs = search needs
 
 add-image : tie.Need-add-image
 add-image c = search needs
@@ -25,36 +22,31 @@ add-image-2 c = search needs
 slice-write-image-2 : tie.Need-slice-write-image-2
 slice-write-image-2 c = simp length-set (omega arith)
 
-add-put-number : tie.Need-add-put-number
-add-put-number c = search needs
+add-put-short : tie.Need-add-put-short
+add-put-short c = search needs
 
-cast-put-number-2 : tie.Need-cast-put-number-2
-cast-put-number-2 c = search needs
-
-put-number-requires-2 : tie.Need-put-number-requires-2
-put-number-requires-2 c κs = simp length-set (omega arith)
+put-short-requires-2 : tie.Need-put-short-requires-2
+put-short-requires-2 c κs = simp length-set (omega arith)
 
 same-length : tie.Need-same-length
-same-length c = c .before .before .put-number2 .kept .0 ∙ simp length-set (c .before .before .before .before .before .before .before .put-number .kept .0)
+same-length c = c .before .before .put-short2 .kept .0 ∙ simp length-set (c .before .before .before .before .before .before .put-short .kept .0)
 
 returns : tie.Need-returns
 returns c =
-    let n = c .before .before .before .before .before .before .before in
-    let s = n .before .before .before .before in
-    entry-stored (s .args .image .now) (n .put-number .last .0) (c .before .before .put-number2 .last .0) (s .args .at) (s .args .e) (n .put-number .ensures) (c .before .before .put-number2 .ensures)
+    let n = c .before .before .before .before .before .before in
+    let s = n .before .before .before in
+    entry-stored (s .args .image .now) (n .put-short .last .0) (c .before .before .put-short2 .last .0) (s .args .at) (s .args .e) (n .put-short .ensures) (c .before .before .put-short2 .ensures)
 
 pub put-entry-spec : {M : Type 1} → statement M
 put-entry-spec =
     tie.close
     (tie.spec
-    cast-put-number
-    put-number-requires
+    put-short-requires
     add-image
     slice-write-image
     add-image-2
     slice-write-image-2
-    add-put-number
-    cast-put-number-2
-    put-number-requires-2
+    add-put-short
+    put-short-requires-2
     same-length
     returns)

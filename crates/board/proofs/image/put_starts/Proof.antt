@@ -1,5 +1,4 @@
 -- The invariant: the starts of the ids below `id` are stored one behind the other. Assumes nothing.
-use borrow.Author.Needs.{needs}
 use lib.ListN.{length}
 use lib.Seq.{sets}
 use mathlib.Core.Path.{_≡_, refl, _∙_}
@@ -22,23 +21,20 @@ loop-holds : tie.Need-loop-holds Inv-loop μ-loop
 unfolding rising
 loop-holds c = (omega arith, refl, refl)
 
-mul-put-number : tie.Need-mul-put-number Inv-loop μ-loop
-mul-put-number c = omega arith
+mul-put-short : tie.Need-mul-put-short Inv-loop μ-loop
+mul-put-short c = omega arith
 
-add-put-number : tie.Need-add-put-number Inv-loop μ-loop
-add-put-number c = omega arith
+add-put-short : tie.Need-add-put-short Inv-loop μ-loop
+add-put-short c = omega arith
 
-mul-put-number-2 : tie.Need-mul-put-number-2 Inv-loop μ-loop
-mul-put-number-2 c = omega arith
+mul-put-short-2 : tie.Need-mul-put-short-2 Inv-loop μ-loop
+mul-put-short-2 c = omega arith
 
-array-read-put-number : tie.Need-array-read-put-number Inv-loop μ-loop
-array-read-put-number c = omega arith
+element-copy-out-put-short : tie.Need-element-copy-out-put-short Inv-loop μ-loop
+element-copy-out-put-short c = omega arith
 
-cast-put-number : tie.Need-cast-put-number Inv-loop μ-loop
-cast-put-number c = search needs
-
-put-number-requires : tie.Need-put-number-requires Inv-loop μ-loop
-put-number-requires c κs = omega arith
+put-short-requires : tie.Need-put-short-requires Inv-loop μ-loop
+put-short-requires c κs = omega arith
 
 add-id : tie.Need-add-id Inv-loop μ-loop
 add-id c = omega arith
@@ -48,12 +44,12 @@ loop-less c = omega arith
 
 loop-again : tie.Need-loop-again Inv-loop μ-loop
 loop-again c =
-    let p = c .before .before .put-number in
-    let l = c .before .before .before .before .before .loop in
-    let s = c .before .before .before .before .before .before .before in (
+    let p = c .before .before .put-short in
+    let l = c .before .before .before .before .before .before .loop in
+    let s = c .before .before .before .before .before .before .before .before in (
       omega arith,
       p .kept .0 ∙ l .inv .1,
-      rising-next _ START (start-length (s .args .t2)) (s .args .image .now) (l .image) (p .last .0) STARTS-AT _ (l .id) refl (l .inv .2) (p .ensures),
+      rising-next _ START (start-length (s .args .starts .now)) (s .args .image .now) (l .image) (p .last .0) STARTS-AT _ (l .id) refl (l .inv .2) (p .ensures),
     )
 
 same-length : tie.Need-same-length Inv-loop μ-loop
@@ -71,12 +67,11 @@ put-starts-spec =
     Inv-loop
     μ-loop
     loop-holds
-    mul-put-number
-    add-put-number
-    mul-put-number-2
-    array-read-put-number
-    cast-put-number
-    put-number-requires
+    mul-put-short
+    add-put-short
+    mul-put-short-2
+    element-copy-out-put-short
+    put-short-requires
     add-id
     loop-less
     loop-again

@@ -13,21 +13,23 @@ entries-of-requires c κs = search needs
 starts-of-requires : tie.Need-starts-of-requires
 starts-of-requires c κs = search needs
 
-number-at-requires : tie.Need-number-at-requires
-number-at-requires c κs = search needs
+request-of-requires : tie.Need-request-of-requires
+request-of-requires c κs = search needs
 
-shared-slice-read-t8 : tie.Need-shared-slice-read-t8
-shared-slice-read-t8 c = search needs
+base-of-requires : tie.Need-base-of-requires
+base-of-requires c κs = search needs
 
-number-at-requires-2 : tie.Need-number-at-requires-2
-number-at-requires-2 c κs = search needs
+length-of-requires : tie.Need-length-of-requires
+length-of-requires c κs = search needs
 
 returns : tie.Need-returns
 returns c =
-    let ss = c .before .before .before in
+    let b = c .before in
+    let r = b .before in
+    let ss = r .before in
     let es = ss .before in
     let os = es .before in
-    held (os .before .before .args .image .now) _ _ _ _ _ (c .before .before .number-at .ensures) (os .owners-of .ensures) (c .number-at2 .ensures) (es .entries-of .ensures) (ss .starts-of .ensures)
+    held (os .before .before .args .image .now) _ _ _ _ _ _ (r .request-of .ensures) (c .length-of .ensures) (os .owners-of .ensures) (b .base-of .ensures) (es .entries-of .ensures) (ss .starts-of .ensures)
 
 pub timetable-of-spec : {M : Type 1} → statement M
 timetable-of-spec =
@@ -36,7 +38,7 @@ timetable-of-spec =
     owners-of-requires
     entries-of-requires
     starts-of-requires
-    number-at-requires
-    shared-slice-read-t8
-    number-at-requires-2
+    request-of-requires
+    base-of-requires
+    length-of-requires
     returns)

@@ -9,24 +9,24 @@ use Rattle.change.specs.Stages.{weightSum}
 use Rattle.numbers.specs.declared.Verdict.the-variants.{Refused}
 use Rattle.slots.specs.Below.{first}
 use Rattle.slots.specs.Limits.{IDS, WHOLE}
+use Rattle.timetable.specs.Columns.{unplaced}
+use Rattle.timetable.specs.Timetable.{weight}
 use Rattle.change.proofs.before.overfull.Statement.{statement}
 use Rattle.change.proofs.before.overfull.Tie as tie
 
 abbrev Inv-loop : tie.InvT-loop
-Inv-loop entries sum₀ id₀ sum id = (id ≤ IDS) × (sum ≤ WHOLE) × (sum ≡ weightSum entries id) × (first id (overTest entries) ≡ none)
+Inv-loop periods bounds shortfalls sum₀ id₀ sum id =
+    (id ≤ IDS) × (sum ≤ WHOLE) × (sum ≡ weightSum (unplaced periods bounds shortfalls) id) × (first id (overTest (unplaced periods bounds shortfalls)) ≡ none)
 
 abbrev μ-loop : tie.MeasureT-loop
-μ-loop entries sum₀ id₀ sum id = IDS - id
+μ-loop periods bounds shortfalls sum₀ id₀ sum id = IDS - id
 
 loop-holds : tie.Need-loop-holds Inv-loop μ-loop
 unfolding first weightSum
 loop-holds c = (omega arith, omega arith, refl, refl)
 
-mul-e : tie.Need-mul-e Inv-loop μ-loop
-mul-e c = search needs
-
-array-copy-out-e : tie.Need-array-copy-out-e Inv-loop μ-loop
-array-copy-out-e c = search needs
+unplaced-row-requires : tie.Need-unplaced-row-requires Inv-loop μ-loop
+unplaced-row-requires c κs = search needs
 
 weight-requires : tie.Need-weight-requires Inv-loop μ-loop
 weight-requires c κs = tt
@@ -45,10 +45,13 @@ of-requires c κs = search needs
 
 returns : tie.Need-returns Inv-loop μ-loop
 returns c =
-    let i = c .before .before .before .before in
+    let w = c .before .before in
+    let i = w .before .before in
     let l = i .before .loop in
+    let a = i .before .before .args in
     ap Refused (c .of .ensures)
-    ∙ over-here (i .before .before .args .t1) (l .id) (l .inv .3) (l .sum) _ (l .inv .2) (c .before .before .weight .ensures) (i .loop-test .taken) (c .before .if1 .taken)
+    ∙ over-here (unplaced (a .periods .now) (a .bounds .now) (a .shortfalls .now)) (l .id) (l .inv .3) (l .sum) _ (l .inv .2)
+    (w .weight .ensures ∙ ap weight (w .before .unplaced-row .ensures)) (i .loop-test .taken) (c .before .if1 .taken)
 
 add-id : tie.Need-add-id Inv-loop μ-loop
 add-id c = omega arith
@@ -58,15 +61,20 @@ loop-less c = omega arith
 
 loop-again : tie.Need-loop-again Inv-loop μ-loop
 loop-again c =
-    let i = c .before .before .before in
+    let w = c .before in
+    let i = w .before .before in
     let l = i .before .loop in
-    let k = over-next (i .before .before .args .t1) (l .id) (l .inv .3) (l .sum) _ (l .inv .2) (c .before .weight .ensures) (c .if1 .left) in
+    let a = i .before .before .args in
+    let k =
+    over-next (unplaced (a .periods .now) (a .bounds .now) (a .shortfalls .now)) (l .id) (l .inv .3) (l .sum) _ (l .inv .2)
+    (w .weight .ensures ∙ ap weight (w .before .unplaced-row .ensures)) (c .if1 .left) in
     (omega (arith, i .loop-test .taken), c .if1 .left, k .0, k .1)
 
 returns-2 : tie.Need-returns-2 Inv-loop μ-loop
 returns-2 c =
     let l = c .before .loop in
-    over-end (c .before .before .args .t1) (l .id) (l .inv .3) (c .loop-test .left) (l .inv .0)
+    let a = c .before .before .args in
+    over-end (unplaced (a .periods .now) (a .bounds .now) (a .shortfalls .now)) (l .id) (l .inv .3) (c .loop-test .left) (l .inv .0)
 
 pub overfull-spec : {M : Type 1} → statement M
 overfull-spec =
@@ -75,8 +83,7 @@ overfull-spec =
     Inv-loop
     μ-loop
     loop-holds
-    mul-e
-    array-copy-out-e
+    unplaced-row-requires
     weight-requires
     cast-sum
     add-sum

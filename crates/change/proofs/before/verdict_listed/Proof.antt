@@ -3,6 +3,7 @@ use borrow.Author.Needs.{needs}
 use mathlib.Core.Path.{sym, _∙_}
 use Rattle.change.specs.Stages.{stageBehind, stagesListed}
 use Rattle.numbers.proofs.ChainLaws.{first-one, first-passed, first-refused}
+use Rattle.timetable.specs.Columns.{unplaced}
 use Rattle.change.proofs.before.verdict_listed.Statement.{statement}
 use Rattle.change.proofs.before.verdict_listed.Tie as tie
 
@@ -28,8 +29,11 @@ returns-2 : tie.Need-returns-2
 unfolding stagesListed
 returns-2 c =
     let o = c .before .before .before in
+    let a = o .before .args in
     c .behind .ensures
-    ∙ sym (first-passed _ _ (sym (o .overfull .ensures) ∙ c .before .enum-told .given .1) ∙ first-one (stageBehind (o .before .args .entries)))
+    ∙ sym
+    (first-passed _ _ (sym (o .overfull .ensures) ∙ c .before .enum-told .given .1)
+    ∙ first-one (stageBehind (unplaced (a .periods .now) (a .bounds .now) (a .shortfalls .now))))
 
 pub verdict-listed-spec : {M : Type 1} → statement M
 verdict-listed-spec = tie.close (tie.spec overfull-requires enum-known-r returns enum-told behind-requires returns-2)

@@ -17,8 +17,8 @@ abbrev μ-loop : tie.MeasureT-loop
 loop-holds : tie.Need-loop-holds Inv-loop μ-loop
 loop-holds c = (omega arith, refl, refl)
 
-array-read-area : tie.Need-array-read-area Inv-loop μ-loop
-array-read-area c = omega arith
+element-copy-out-area : tie.Need-element-copy-out-area Inv-loop μ-loop
+element-copy-out-area c = omega arith
 
 add-area : tie.Need-add-area Inv-loop μ-loop
 add-area c = omega arith
@@ -34,11 +34,11 @@ loop-less c = omega arith
 
 loop-again : tie.Need-loop-again Inv-loop μ-loop
 loop-again c =
-    let a = c .before .before .args in
-    let l = c .before .loop in (
+    let a = c .before .before .before .args in
+    let l = c .before .before .loop in (
       omega arith,
       simp length-set (l .inv .1),
-      rw (l .inv .2) (sets-next (a .area .now) (a .t4) (a .from) (l .n) (omega arith)),
+      rw (l .inv .2) (sets-next (a .area .now) (a .owners .now) (a .from) (l .n) (omega (arith, c .before .before .before .pre))),
     )
 
 add-result : tie.Need-add-result Inv-loop μ-loop
@@ -59,7 +59,7 @@ put-owners-spec =
     Inv-loop
     μ-loop
     loop-holds
-    array-read-area
+    element-copy-out-area
     add-area
     slice-write-area
     add-n

@@ -1,11 +1,13 @@
 -- The fields are stored one behind the other, each from where the one before ends, and no store changes the area's length. Assumes nothing.
 use borrow.Author.Needs.{needs}
 use lib.ListN.{length, length-set}
+use mathlib.Core.List.{[]}
 use mathlib.Core.Path.{_≡_, _∙_}
 use native.Mathlib.Omega.{arith}
 use Rattle.records.proofs.AreaLaws.{answer-stored}
 use Rattle.records.proofs.write.write_answer.Statement.{statement}
 use Rattle.records.proofs.write.write_answer.Tie as tie
+use Rattle.timetable.specs.Columns.{fromColumns}
 
 -- The area keeps its length up to the owners' head.
 kept : (c : tie.After-put-head2) → length (c .put-head2 .last .0) ≡ length (c .before .before .before .before .before .before .before .args .area .now)
@@ -41,7 +43,7 @@ returns c =
     let head = owners .before .before .before .before in
     let first = head .before .before .before .before in
     let start = first .before .before .before in
-    answer-stored (start .args .size) (start .args .owners) (start .args .entries) (omega (arith, start .pre)) (omega (arith, start .pre, start .good)) _ _ _ _ _ _ _
+    answer-stored (start .args .size) (start .args .owners .now) (fromColumns (start .args .periods .now) (start .args .offsets .now) [] []) (omega (arith, start .pre)) (omega (arith, start .pre)) _ _ _ _ _ _ _
     (first .put-head .ensures)
     (head .put-head2 .ensures)
     (owners .put-owners .ensures .0)
