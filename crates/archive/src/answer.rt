@@ -157,20 +157,21 @@ fn told_length(s: &[u8]) -> u8
     if s.len() <= 3 { 0 } else { s[3] }
 }
 
-// Whether each of these owners is 0 to 31.
+// Whether each of these owners is 0 to 31. All are looked at, so that nothing waits for an answer.
 fn are_owners(s: &[u8], size: u8) -> bool
     requires { ⌜ 7 + size ≤ length (now s) ⌝ }
     ensures { λ r. ⌜ r ≡ areOwners (now (s .entry)) size ⌝ }
 {
     let count = size as usize;
+    let mut are = true;
     let mut n: usize = 0;
     while n < count {
         if Timetable::IDS <= (s[FIRST_OWNER + n] as usize) {
-            return false;
+            are = false;
         }
         n += 1;
     }
-    true
+    are
 }
 
 // The owners of all transition slots, and 0 for those that the transition does not have.

@@ -1,9 +1,10 @@
--- The invariant: each of the owners below n is 0 to 31. Assumes nothing.
+-- The invariant: it is answered whether each of the owners below n is 0 to 31. Assumes nothing.
 use borrow.Author.Tests.{le-ltb, lt-ltb}
 use lib.Dec.{ltb}
-use mathlib.Core.Bool.{Bool, true, false}
+use mathlib.Core.Bool.{Bool, true, false, _&&_}
 use mathlib.Core.List.{List}
-use mathlib.Core.Path.{_≡_, refl, sym}
+use mathlib.Core.Logic.{⊎-elim}
+use mathlib.Core.Path.{_≡_, refl, sym, _∙_}
 use native.Mathlib.Omega.{arith}
 use Prim.Native.Nat.{ℕ, _+_, _-_, _≤_}
 use Rattle.archive.proofs.answer.are_owners.Statement.{statement}
@@ -12,17 +13,26 @@ use Rattle.archive.specs.AnswerRead.{areOwners}
 use Rattle.records.specs.Request.{contentAt}
 use Rattle.slots.specs.Below.{every}
 use Rattle.slots.specs.Limits.{IDS}
-use Rattle.timetable.proofs.ScanLaws.{scan-ends, scan-goes, scan-stops}
+use Rattle.timetable.proofs.ScanLaws.{every-end, every-next}
 
 -- Owner k is 0 to 31.
 abbrev test : List ℕ → ℕ → Bool
 test s k = ltb (contentAt s 4 k) IDS
 
+-- One that is not makes the answer no, and one that is leaves it.
+and-false : (b : Bool) → false ≡ (b && false)
+and-false true = refl
+and-false false = refl
+
+and-true : (b : Bool) → b ≡ (b && true)
+and-true true = refl
+and-true false = refl
+
 abbrev Inv-loop : tie.InvT-loop
-Inv-loop s size count n₀ n = (n ≤ size) × (every n (test s) ≡ true)
+Inv-loop s size count are₀ n₀ are n = (n ≤ size) × (are ≡ every n (test s))
 
 abbrev μ-loop : tie.MeasureT-loop
-μ-loop s size count n₀ n = size - n
+μ-loop s size count are₀ n₀ are n = size - n
 
 loop-holds : tie.Need-loop-holds Inv-loop μ-loop
 unfolding every
@@ -37,13 +47,6 @@ shared-slice-read-if1 c = omega arith
 cast-if1 : tie.Need-cast-if1 Inv-loop μ-loop
 cast-if1 c = omega (arith, c .shared-slice-known .given (7 + c .before .before .loop .n))
 
-returns : tie.Need-returns Inv-loop μ-loop
-unfolding areOwners contentAt
-returns c =
-    let a = c .before .before .before .before .args in
-    let l = c .before .before .before .loop in
-    scan-stops (test (a .s .now)) (a .size) (l .n) false (c .before .before .loop-test .taken) (sym (le-ltb _ _ (c .if1 .taken))) refl
-
 add-n : tie.Need-add-n Inv-loop μ-loop
 add-n c = omega arith
 
@@ -53,16 +56,21 @@ loop-less c = omega arith
 loop-again : tie.Need-loop-again Inv-loop μ-loop
 unfolding contentAt
 loop-again c =
-    let a = c .before .before .before .before .args in
     let l = c .before .before .before .loop in
-    (omega arith, scan-goes (test (a .s .now)) (l .n) true (l .inv .1) (sym (lt-ltb _ _ (c .if1 .left))) refl)
+    let a = c .before .before .before .before .args in (
+      omega arith,
+      ⊎-elim
+          (λ w. every-next (test (a .s .now)) (l .n) _ (l .are) false (w .1 ∙ and-false (l .are)) (l .inv .1) (sym (le-ltb _ _ (w .0 .taken))))
+          (λ w. every-next (test (a .s .now)) (l .n) _ (l .are) true (w .1 ∙ and-true (l .are)) (l .inv .1) (sym (lt-ltb _ _ (w .0 .left))))
+          (c .if1 .came),
+    )
 
-returns-2 : tie.Need-returns-2 Inv-loop μ-loop
+returns : tie.Need-returns Inv-loop μ-loop
 unfolding areOwners
-returns-2 c =
+returns c =
     let a = c .before .before .args in
     let l = c .before .loop in
-    scan-ends (test (a .s .now)) (a .size) (l .n) (c .loop-test .left) (l .inv .0) (l .inv .1)
+    every-end (test (a .s .now)) (a .size) (l .n) _ (c .loop-test .left) (l .inv .0) (l .inv .1)
 
 pub are-owners-spec : {M : Type 1} → statement M
 are-owners-spec =
@@ -74,8 +82,7 @@ are-owners-spec =
     add-if1
     shared-slice-read-if1
     cast-if1
-    returns
     add-n
     loop-less
     loop-again
-    returns-2)
+    returns)
