@@ -4,6 +4,8 @@ use crate::timing::Times;
 
 /// The largest ratio of medians, library to port, that is a goal met.
 const RATIO: f64 = 1.0;
+/// The same of the programs: the library's tests no timetable that it knows to be sound.
+const PROGRAM_RATIO: f64 = 0.8;
 
 /// One row: what was measured, in what (inputs, passes or runs), and its times.
 pub struct Row {
@@ -81,12 +83,13 @@ pub fn goal(name: &str, figure: f64, most: f64) {
     println!("| {name} | {most} | {figure:.2} | {verdict} |");
 }
 
-/// Prints for each row whether the library is no slower than the port.
+/// Prints for each row whether the library is as fast beside the port as it is to be.
 pub fn ratio_goals(sections: &[Section]) {
     for section in sections {
+        let most = if section.letter == "d" { PROGRAM_RATIO } else { RATIO };
         for row in &section.rows {
             let name = format!("ratio of medians, ({}) {}", section.letter, row.name);
-            goal(&name, row.ratio(), RATIO);
+            goal(&name, row.ratio(), most);
         }
     }
 }
