@@ -1,16 +1,14 @@
 -- What each exported function returns and leaves, from its test of the image's length and the answer that it got. Assumes nothing.
 use borrow.Author.Tests.{eq-eqb, ne-eqb}
 use lib.ListN.{length, replicate}
-use lib.Seq.{sets}
 use mathlib.Core.Bool.{false}
-use mathlib.Core.List.{List, []}
+use mathlib.Core.List.{List}
 use mathlib.Core.Logic.{_≢_}
 use mathlib.Core.Path.{_≡_, refl, sym, ap, _∙_}
 use native.Mathlib.Omega.{arith}
-use Prim.Native.Nat.{ℕ, _≤_}
+use Prim.Native.Nat.{ℕ}
 use Rattle.board.specs.Image.{Changed, IMAGE, OwnerTold, StandingTold, areaAfterImage, emptyImage, emptyNumber, imageAfter, imageAnswer, imageOf, imageOwner, imageStanding, timetableAt}
-use Rattle.change.proofs.Answers.{accepted-owners, record-accepted, record-none}
-use Rattle.change.proofs.Passing.{answer-unsound, goes-into}
+use Rattle.change.proofs.Passing.{answer-unsound}
 use Rattle.change.specs.Change.{answer, recordOf, refuse, written}
 use Rattle.change.specs.Columns.{Decides}
 use Rattle.change.specs.declared.Answer.{Answer}
@@ -19,12 +17,10 @@ use Rattle.change.specs.declared.OwnerAnswer.{OwnerAnswer}
 use Rattle.change.specs.declared.StandingAnswer.{StandingAnswer}
 use Rattle.change.specs.Queries.{ownerQuery, standingQuery}
 use Rattle.numbers.specs.Numbers.{ACCEPTED, NOT-SOUND, refusal}
-use Rattle.records.proofs.AnswerLaws.{answer-columns}
-use Rattle.records.specs.Answer.{answerRecord}
 use Rattle.slots.specs.Clocks.{coreSlot}
-use Rattle.slots.specs.Limits.{AREA, IDS, LONGEST}
+use Rattle.slots.specs.Limits.{IDS, LONGEST}
 use Rattle.timetable.proofs.ColumnLaws.{columns-empty}
-use Rattle.timetable.specs.Columns.{fromColumns, ofColumns}
+use Rattle.timetable.specs.Columns.{ofColumns}
 use Rattle.timetable.specs.declared.Timetable.{Timetable}
 use Rattle.timetable.specs.Sound.{isSound}
 
@@ -125,37 +121,22 @@ module _ (image : List ℕ) (e : length image ≡ IMAGE) where
         left bytes after area-after b i r =
             rw (k .number, k .place, k .tries, b, r) (told image request area after (answer t request (length area)) gets i)
 
-        module _ (a : d .number ≡ ACCEPTED) where
-          -- The record of what was decided is the answer's.
-          record-decided : recordOf (answer t request (length area)) ≡ answerRecord (d .length) owners (fromColumns periods (d .offsets) [] [])
-          record-decided =
-              record-accepted _ (sym (k .number) ∙ a)
-              ∙ ap (λ (x : Timetable). answerRecord (x .length) (x .owners) (x .entries)) (k .in-force (sym (k .number) ∙ a))
-              ∙ answer-columns (d .length) owners periods (d .offsets) bounds shortfalls
+        -- What was written is the answer's record, and the image that of the new timetable.
+        pub change-accepted : d .number ≡ ACCEPTED → (bytes : ℕ) (after area-after : List ℕ)
+            → after ≡ imageOf (ofColumns (d .slot) (d .length) owners (d .base) periods (d .offsets) bounds shortfalls starts)
+            → (bytes ≡ length (recordOf (answer t request (length area)))) × (area-after ≡ written (answer t request (length area)) area)
+            → Changed image request area (d .number) (d .place) (d .tries) bytes after area-after
+        change-accepted a bytes after area-after i w =
+            left bytes after area-after (w .0)
+            (i ∙ sym (ap imageOf (k .in-force (sym (k .number) ∙ a)))
+            ∙ sym (after-accepted image request (length area) (ap (λ (x : Answer). x .number) gets ∙ sym (k .number) ∙ a)
+            ∙ ap (λ (x : Answer). imageOf (x .timetable)) gets))
+            (w .1)
 
-          pub change-accepted : (bytes : ℕ) (after area-after : List ℕ)
-              → after ≡ imageOf (ofColumns (d .slot) (d .length) owners (d .base) periods (d .offsets) bounds shortfalls starts)
-              → bytes ≡ length (answerRecord (d .length) owners (fromColumns periods (d .offsets) [] []))
-              → area-after ≡ sets area 0 (answerRecord (d .length) owners (fromColumns periods (d .offsets) [] []))
-              → Changed image request area (d .number) (d .place) (d .tries) bytes after area-after
-          change-accepted bytes after area-after i b r =
-              left bytes after area-after (b ∙ ap (λ (x : List ℕ). length x) (sym record-decided))
-              (i ∙ sym (ap imageOf (k .in-force (sym (k .number) ∙ a)))
-              ∙ sym (after-accepted image request (length area) (ap (λ (x : Answer). x .number) gets ∙ sym (k .number) ∙ a)
-              ∙ ap (λ (x : Answer). imageOf (x .timetable)) gets))
-              (r ∙ ap (sets area 0) (sym record-decided))
-
-          -- What writing the record asks.
-          pub record-fits : (AREA ≤ length area) × (d .length ≤ LONGEST) × (length owners ≡ LONGEST)
-          record-fits =
-              let z = sym (k .number) ∙ a in
-              let u = k .in-force z in
-              let g = goes-into t request (length area) z in
-              (g .0, omega (arith, g .1, ap (λ (x : Timetable). x .length) u), sym (ap (λ (x : Timetable). length (x .owners)) u) ∙ accepted-owners t request (length area) z)
-
-        pub change-refused : d .number ≢ ACCEPTED → Changed image request area (d .number) (d .place) (d .tries) 0 image area
-        change-refused n =
-            let y = record-none (answer t request (length area)) (λ z. n (k .number ∙ z)) in
-            left 0 image area (sym (ap (λ (x : List ℕ). length x) y))
+        pub change-refused : d .number ≢ ACCEPTED → (bytes : ℕ) (area-after : List ℕ)
+            → (bytes ≡ length (recordOf (answer t request (length area)))) × (area-after ≡ written (answer t request (length area)) area)
+            → Changed image request area (d .number) (d .place) (d .tries) bytes image area-after
+        change-refused n bytes area-after w =
+            left bytes image area-after (w .0)
             (sym (after-refused image request (length area) (λ z. n (k .number ∙ sym (ap (λ (x : Answer). x .number) gets) ∙ z))))
-            (sym (ap (sets area 0) y))
+            (w .1)

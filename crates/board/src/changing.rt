@@ -6,8 +6,8 @@ ghost use Rattle.change.specs.Columns.{Old};
 ghost use Rattle.timetable.specs.Columns.{fromColumns};
 use crate::image;
 use change::columns::decide;
+use change::columns::write;
 use numbers::Refusal;
-use records::write::write_answer;
 use slots::CoreSlot;
 use timetable::Timetable;
 use timetable::are_sound;
@@ -104,12 +104,11 @@ fn change_sound(
         &mut new_shortfalls,
         &mut starts,
     );
-    let mut written = 0;
+    let written = write(d, &owners, &new_periods, area);
     if d.number == Refusal::ACCEPTED {
         let slot = d.slot;
         let new_base = d.base;
         let new_offsets = d.offsets;
-        written = write_answer(area, d.length, &owners, &new_periods, &new_offsets);
         image::put_image(
             image,
             slot,

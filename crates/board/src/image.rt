@@ -3,7 +3,7 @@ ghost use lib.ListN.{drop, getD, length, take};
 ghost use lib.Seq.{sets};
 ghost use mathlib.Core.Path.{_≡_};
 ghost use Prim.Native.Nat.{_+_, _≤_};
-ghost use Rattle.board.specs.Image.{BASE-AT, ENTRIES-AT, ENTRY, IMAGE, LENGTH-AT, OWNERS-AT, STARTS-AT, entriesAt, entriesBytes, entryAt, entryBytes, imageOf, startsAt, startsBytes, timetableAt};
+ghost use Rattle.board.specs.Image.{BASE-AT, ENTRIES-AT, ENTRY, IMAGE, LENGTH-AT, OWNERS-AT, STARTS-AT, entriesAt, entriesBytes, entryAt, entryBytes, imageOf, startsAt, startsBytes};
 ghost use Rattle.records.specs.Request.{numberAt};
 ghost use Rattle.records.specs.Written.{numberBytes};
 ghost use Rattle.slots.specs.Clocks.{coreSlot};
@@ -41,26 +41,6 @@ const STARTS_AT: usize = 273;
 // A start has this many bytes.
 const START: usize = 2;
 
-// The timetable that an image holds.
-pub fn timetable_of(image: &[u8]) -> Timetable
-    requires { ⌜ length (now image) ≡ IMAGE ⌝ }
-    ensures { λ r. ⌜ r ≡ timetableAt (now (image .entry)) ⌝ }
-{
-    let owners = owners_of(image);
-    let entries = entries_of(image);
-    let starts = starts_of(image);
-    let request = request_of(image);
-    let base = base_of(image);
-    Timetable {
-        request,
-        length: length_of(image),
-        owners,
-        base,
-        entries,
-        starts,
-    }
-}
-
 // The request slot that an image holds.
 pub fn request_of(image: &[u8]) -> CoreSlot
     requires { ⌜ length (now image) ≡ IMAGE ⌝ }
@@ -97,21 +77,6 @@ pub fn owners_of(image: &[u8]) -> [u8; Timetable::LONGEST]
         n += 1;
     }
     owners
-}
-
-// The entries that an image holds.
-fn entries_of(image: &[u8]) -> [Entry; Timetable::IDS]
-    requires { ⌜ length (now image) ≡ IMAGE ⌝ }
-    ensures { λ r. ⌜ r ≡ entriesAt (now (image .entry)) IDS ⌝ }
-{
-    let none = Entry::absent(0);
-    let mut entries = [none; Timetable::IDS];
-    let mut id: usize = 0;
-    while id < Timetable::IDS {
-        entries[id] = entry_of(image, ENTRIES_AT + ENTRY * id);
-        id += 1;
-    }
-    entries
 }
 
 // Puts the figures of the entries that an image holds into columns.

@@ -14,6 +14,7 @@ use timetable::Timetable;
 
 mod changing; // changing.rt: the change of an image by a request
 mod image; // image.rt: reading and writing an image
+mod querying; // querying.rt: the two queries on an image
 mod schedule; // schedule.rt: writing what an answer says
 
 // An image has this many bytes. Fewer or more are no sound timetable.
@@ -83,13 +84,13 @@ pub extern "C" fn tarnflaw_owner(image: &[u8], slot: u64, place: &mut usize, own
         *owner = 0;
         return Refusal::NOT_SOUND;
     }
-    let a = change::queries::owner_query(image::timetable_of(image), CoreSlot(slot));
+    let a = querying::owner_of_image(image, CoreSlot(slot));
     *place = a.place;
     *owner = a.owner;
     a.number
 }
 
-// The shortfall of an id at a slot's start, and the slices it has had from the base up to there.
+// The shortfall of an id at a slot's start, and the slices it has had from the request slot up to there.
 #[no_mangle]
 pub extern "C" fn tarnflaw_standing(
     image: &[u8],
@@ -107,7 +108,7 @@ pub extern "C" fn tarnflaw_standing(
         *slices = 0;
         return Refusal::NOT_SOUND;
     }
-    let a = change::queries::standing_query(image::timetable_of(image), id, CoreSlot(slot));
+    let a = querying::standing_of_image(image, id, CoreSlot(slot));
     *place = a.place;
     *shortfall = a.shortfall;
     *slices = a.slices.0;

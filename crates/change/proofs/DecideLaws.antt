@@ -1,18 +1,22 @@
 -- What is decided over columns is the answer to the request, from the verdicts of the stages and from the end of the search. Assumes nothing.
-use mathlib.Core.List.{List}
+use mathlib.Core.List.{List, []}
 use mathlib.Core.Logic.{_≢_}
 use mathlib.Core.Path.{_≡_, refl, sym, ap, _∙_}
-use lib.ListN.{replicate}
+use lib.ListN.{length, replicate}
 use native.Mathlib.Omega.{arith}
 use Prim.Native.Nat.{ℕ, _+_, _-_, _≤_, _<_}
+use Rattle.change.proofs.Answers.{accepted-owners, record-accepted, record-none}
 use Rattle.change.proofs.EnterLaws.{start-entered}
-use Rattle.change.specs.Change.{numberOf, placeOf, timetableOf, startPlan, startsOf, answerOf, refuse, shortfallsOf}
-use Rattle.change.specs.Columns.{Decides, Ends, Entered, HandsBack, Old, enteredFrom}
+use Rattle.change.proofs.Passing.{goes-into}
+use Rattle.change.specs.Change.{answer, numberOf, placeOf, timetableOf, startPlan, startsOf, answerOf, recordOf, refuse, shortfallsOf}
+use Rattle.change.specs.Columns.{Decides, Ends, Entered, HandsBack, Old, RecordFits, enteredFrom}
 use Rattle.change.specs.declared.Answer.{Answer}
 use Rattle.change.specs.declared.Decided.{Decided}
 use Rattle.change.specs.Stages.{startEntries}
 use Rattle.numbers.specs.declared.Refusal.{Refusal}
 use Rattle.numbers.specs.Numbers.{ACCEPTED, SLOT-MISSED, LENGTHS-EXHAUSTED}
+use Rattle.records.proofs.AnswerLaws.{answer-columns}
+use Rattle.records.specs.Answer.{answerRecord}
 use Rattle.records.specs.declared.Request.{Request}
 use Rattle.slots.specs.Clocks.{coreSlot}
 use Rattle.slots.specs.declared.CoreSlot.{CoreSlot}
@@ -97,6 +101,29 @@ module _ (a : Answer) (d : Decided) (owners periods bounds shortfalls starts : L
           λ j. ofColumns (sym (k .0) j) (sym (k .1) j) owners (sym (k .2) j) periods (sym (k .3) j) bounds shortfalls (sym s j)
       at (Missed n) f z = absurd (omega (arith, z))
       at (Exhausted n) f z = absurd (omega (arith, z))
+
+-- ---- its record
+
+module _ (a : Answer) (d : Decided) (owners periods bounds shortfalls starts : List ℕ) (h : Decides a d owners periods bounds shortfalls starts) where
+  -- The record of what was decided is the answer's,
+  pub record-decided : d .number ≡ ACCEPTED → recordOf a ≡ answerRecord (d .length) owners (fromColumns periods (d .offsets) [] [])
+  record-decided z =
+      record-accepted a (sym (h .number) ∙ z)
+      ∙ ap (λ (x : Timetable). answerRecord (x .length) (x .owners) (x .entries)) (h .in-force (sym (h .number) ∙ z))
+      ∙ answer-columns (d .length) owners periods (d .offsets) bounds shortfalls
+
+  -- and that of a refusal is none.
+  pub record-refused : d .number ≢ ACCEPTED → recordOf a ≡ []
+  record-refused n = record-none a (λ z. n (h .number ∙ z))
+
+-- It goes into the area for which the request was decided.
+pub record-fits : (t : Timetable) (s : List ℕ) (area : ℕ) (d : Decided) (owners periods bounds shortfalls starts : List ℕ)
+    → Decides (answer t s area) d owners periods bounds shortfalls starts → RecordFits d owners area
+record-fits t s area d owners periods bounds shortfalls starts h a =
+    let z = sym (h .number) ∙ a in
+    let u = h .in-force z in
+    let g = goes-into t s area z in
+    (g .0, omega (arith, g .1, ap (λ (x : Timetable). x .length) u), sym (ap (λ (x : Timetable). length (x .owners)) u) ∙ accepted-owners t s area z)
 
 -- ---- the timetable in force
 

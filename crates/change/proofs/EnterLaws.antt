@@ -1,10 +1,13 @@
 -- The entries with which the ids enter a change, in columns, id by id; and of a sound timetable they are those at the request slot. Assumes nothing.
+use borrow.Author.Tests.{lt-ltb, le-ltb}
 use lib.Dec.{ltb}
-use lib.ListN.{length, length-replicate, replicate, set}
+use lib.ListN.{getD, length, length-replicate, replicate, set}
 use lib.Seq.{ext-getD}
 use mathlib.Core.Bool.{Bool, true, false, cond}
 use mathlib.Core.List.{List}
+use mathlib.Core.Logic.{⊎-elim}
 use mathlib.Core.Path.{_≡_, refl, sym, ap, _∙_}
+use native.Mathlib.Decide.{decLt}
 use native.Mathlib.Omega.{arith}
 use Prim.Native.Nat.{ℕ, _+_, _-_, _≤_, _<_}
 use Rattle.change.proofs.StageSteps.{shortfalls-all}
@@ -12,17 +15,20 @@ use Rattle.change.proofs.Start.{length-start, start-at}
 use Rattle.change.specs.Columns.{Entered, enteredFrom}
 use Rattle.change.specs.Stages.{askedBound, entering, startEntries}
 use Rattle.records.specs.declared.Ask.{Ask}
+use Rattle.records.specs.Reads.{AsksRange}
 use Rattle.records.specs.Request.{askOf}
 use Rattle.slots.specs.declared.CoreSlot.{CoreSlot}
 use Rattle.slots.specs.Limits.{IDS}
-use Rattle.timetable.proofs.ColumnLaws.{columns-are, unplaced-row}
+use Rattle.timetable.proofs.ColumnLaws.{columns-are, unplaced-at, unplaced-row}
 use Rattle.timetable.proofs.Entries.{each-at, length-each}
 use Rattle.timetable.proofs.Filling.{Filled, filled-next, filled-nothing}
+use Rattle.timetable.proofs.Ranges.{period-is}
 use Rattle.timetable.proofs.Since.{shortfall-cycle}
 use Rattle.timetable.proofs.Sound.{Sound}
-use Rattle.timetable.specs.Columns.{rowOf}
+use Rattle.timetable.specs.Columns.{ArePeriods, rowOf}
 use Rattle.timetable.specs.declared.Entry.{Entry}
 use Rattle.timetable.specs.declared.Timetable.{Timetable}
+use Rattle.timetable.specs.Sound.{isPeriod}
 use Rattle.timetable.specs.Timetable.{absentEntry, entryOf, noEntry, shortfallAfter}
 
 -- An entry that enters is not placed yet.
@@ -34,6 +40,16 @@ enters-unplaced old start ask = at (ltb 0 (ask .period))
         → cond b (record { period = ask .period; offset = 0; bound = askedBound old ask; shortfall = start }) (absentEntry start) .offset ≡ 0
     at true = refl
     at false = refl
+
+-- It has the period that is asked for, 0 where none is.
+enters-period : (old : Entry) (start : ℕ) (ask : Ask) → entering old start ask .period ≡ ask .period
+unfolding entering
+enters-period old start ask = at (decLt 0 (ask .period))
+  where
+    at : Dec (0 < ask .period)
+        → cond (ltb 0 (ask .period)) (record { period = ask .period; offset = 0; bound = askedBound old ask; shortfall = start }) (absentEntry start) .period ≡ ask .period
+    at (yes h) = rw (lt-ltb 0 (ask .period) h)
+    at (no h) = rw (le-ltb 0 (ask .period) (omega arith)) (omega arith)
 
 module _ (olds : List Entry) (elapsed : ℕ) (asks : List Ask) where
   -- There is one for each id,
@@ -76,6 +92,16 @@ module _ (olds : List Entry) (elapsed : ℕ) (asks : List Ask) where
           shortfall = filled-next _ n shortfalls _ k (h .shortfall) (ap (λ (x : Entry). x .shortfall) q);
           start = filled-next _ n starts _ k (h .start) (ap (λ (x : Entry). x .shortfall) q);
         }
+
+    -- Their periods are those of asks in range.
+    pub entered-periods : Entered (enteredFrom olds elapsed asks) periods bounds shortfalls starts → AsksRange asks → ArePeriods periods
+    entered-periods h r i k pos =
+        let e : getD periods i 0 ≡ askOf asks i .period =
+        sym (ap (λ (x : Entry). x .period) (unplaced-at periods bounds shortfalls i k))
+        ∙ ap (λ (es : List Entry). entryOf es i .period) (h .columns)
+        ∙ ap (λ (x : Entry). x .period) (entered-at i k)
+        ∙ enters-period _ _ _ in
+        ⊎-elim (λ z. absurd (omega (arith, e, z .0, pos))) (λ p. ap isPeriod e ∙ period-is _ (p .0)) (r .each i k)
 
     -- All of them.
     pub entered-all : (n : ℕ) → IDS ≤ n → EnteredTo n periods bounds shortfalls starts → Entered (enteredFrom olds elapsed asks) periods bounds shortfalls starts

@@ -8,7 +8,6 @@ use Prim.Native.Nat.{ℕ, _≤_, _<_}
 use Rattle.change.proofs.Answers.{Admitted, accepted-continues, admitted, admitted-fit, Gets, refused, accepted, no-slot, no-length, gets, refusal-number, said}
 use Rattle.change.proofs.Stages.{first-tells}
 use Rattle.change.specs.Change.{startPlan, searchOf, answerOf, refuse, answerTo, answer}
-use Rattle.change.specs.Coded.{GoesInto}
 use Rattle.change.specs.Columns.{FoundIn, HandsBack}
 use Rattle.change.specs.declared.Answer.{Answer}
 use Rattle.change.specs.Refused.{FirstStages, not-sound, sound, enough, whole, in-time}
@@ -20,8 +19,12 @@ use Rattle.numbers.specs.declared.Refusal.{Refusal}
 use Rattle.numbers.specs.Numbers.{ACCEPTED, NOT-SOUND, refusal}
 use Rattle.numbers.specs.declared.Verdict.{Verdict}
 use Rattle.numbers.specs.declared.Verdict.the-variants.{Passed, Refused}
+use Rattle.records.proofs.ReadLaws.{read-in-range}
+use Rattle.records.specs.declared.Reading.the-variants.{Whole}
 use Rattle.records.specs.declared.ReadRequest.{ReadRequest}
+use Rattle.records.specs.Reads.{RequestRange}
 use Rattle.records.specs.Request.{readRequest}
+use Rattle.slots.specs.Limits.{AREA, LONGEST}
 use Rattle.timetable.proofs.Sound.{ranged-is, sound-is}
 use Rattle.timetable.specs.declared.Timetable.{Timetable}
 use Rattle.timetable.specs.Sound.{isSound}
@@ -47,6 +50,10 @@ found-limit limit plan = at (searchFrom limit 0 plan) (search-ends limit 0 plan)
     at x (found k l b p h ps f i) = subst (λ (x : Searched). lengthOf (x .ending) ≤ limit) (sym i) (omega (arith, l))
     at x (missed k l b p h f i) = subst (λ (x : Searched). lengthOf (x .ending) ≤ limit) (sym i) (omega arith)
     at x (exhausted b p i) = subst (λ (x : Searched). lengthOf (x .ending) ≤ limit) (sym i) (omega arith)
+
+-- An answer whose record goes into an area of a size.
+abbrev pub GoesInto : Answer → ℕ → Type 0
+GoesInto a area = a .number ≡ ACCEPTED → (AREA ≤ area) × (a .timetable .length ≤ LONGEST)
 
 -- An answer's record goes into the area for which it was decided.
 pub goes-into : (t : Timetable) (s : List ℕ) (area : ℕ) → GoesInto (answer t s area) area
@@ -76,6 +83,14 @@ stays-sound t s area h = at (ℕ-discrete (answer t s area .number) ACCEPTED)
     at (yes e) = sound-is _ (accepted-continues t s area e .sound)
     at (no n) = ap isSound (hands-back t s area n) ∙ h
 
+-- What passes the first stages has a sound timetable, is read whole, and has a slot that is not too early.
+pub first-passes : (t : Timetable) (read : ReadRequest) (area : ℕ) → firstOf (stagesFirst t read area) ≡ Passed
+    → (isSound t ≡ true) × (read .reading ≡ Whole) × (t .base .0 ≤ read .request .slot .0)
+first-passes t read area e = at (subst (FirstStages t read area) e (first-tells t read area .holds))
+  where
+    at : FirstStages t read area Passed → (isSound t ≡ true) × (read .reading ≡ Whole) × (t .base .0 ≤ read .request .slot .0)
+    at (passed _ (sound a) (passed _ (enough b) (passed _ (whole c) (in-time d)))) = (a, c, d)
+
 module _ (t : Timetable) (s : List ℕ) (area : ℕ) (read : ReadRequest) (q : read ≡ readRequest s) where
   -- The answer, were this the verdict.
   given : Verdict → Answer
@@ -101,6 +116,11 @@ module _ (t : Timetable) (s : List ℕ) (area : ℕ) (read : ReadRequest) (q : r
   pub first-number : (r : Refusal) → firstOf (stagesFirst t read area) ≡ Refused r → 0 < r .number
   unfolding verdictBefore
   first-number r e = refused-number r (split-refused (stagesFirst t read area) _ r e)
+
+  -- What passes them is in range.
+  pub first-range : firstOf (stagesFirst t read area) ≡ Passed → RequestRange (read .request)
+  first-range e =
+      subst (λ (y : ReadRequest). y .reading ≡ Whole → RequestRange (y .request)) (sym q) (read-in-range s) (first-passes t read area e .1)
 
   module _ (e : firstOf (stagesFirst t read area) ≡ Passed) (plan : Plan) (p : plan ≡ startPlan t (read .request)) where
     -- What passes them is judged by the stages after them.
@@ -137,11 +157,3 @@ module _ (t : Timetable) (s : List ℕ) (area : ℕ) (read : ReadRequest) (q : r
         passes .range .slot,
         omega (arith, found-limit (read .request .limit) plan, ap lengthOf (sym k ∙ ap (λ (y : Searched). y .ending) h), passes .range .limit),
       )
-
--- What passes the first stages has a sound timetable, and a slot that is not too early.
-pub first-passes : (t : Timetable) (read : ReadRequest) (area : ℕ) → firstOf (stagesFirst t read area) ≡ Passed
-    → (isSound t ≡ true) × (t .base .0 ≤ read .request .slot .0)
-first-passes t read area e = at (subst (FirstStages t read area) e (first-tells t read area .holds))
-  where
-    at : FirstStages t read area Passed → (isSound t ≡ true) × (t .base .0 ≤ read .request .slot .0)
-    at (passed _ (sound a) (passed _ (enough b) (passed _ (whole c) (in-time d)))) = (a, d)

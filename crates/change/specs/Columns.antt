@@ -1,4 +1,4 @@
--- Helpers of the contracts in src/columns.rt and src/before.rt: what a sound timetable hands to a change, and what the change hands back, in columns.
+-- Helpers of the contracts in src/columns.rt, src/before.rt and src/answering.rt: what a sound timetable hands to a change, and what the change hands back, in columns.
 use lib.ListN.{length, replicate}
 use mathlib.Core.Bool.{true}
 use mathlib.Core.List.{List}
@@ -14,7 +14,7 @@ use Rattle.records.specs.declared.Ask.{Ask}
 use Rattle.records.specs.Request.{askOf}
 use Rattle.slots.specs.Clocks.{coreSlot}
 use Rattle.slots.specs.declared.CoreSlot.{CoreSlot}
-use Rattle.slots.specs.Limits.{IDS, LAST-SLOT, LONGEST}
+use Rattle.slots.specs.Limits.{AREA, IDS, LAST-SLOT, LONGEST}
 use Rattle.timetable.specs.Columns.{ofColumns, unplaced}
 use Rattle.timetable.specs.declared.Entry.{Entry}
 use Rattle.timetable.specs.declared.Timetable.{Timetable}
@@ -51,6 +51,10 @@ pub record Decides (a : Answer) (d : Decided) (owners periods bounds shortfalls 
   pub place : d .place ≡ a .place
   pub tries : d .tries ≡ a .tries
   pub in-force : a .number ≡ ACCEPTED → a .timetable ≡ ofColumns (d .slot) (d .length) owners (d .base) periods (d .offsets) bounds shortfalls starts
+
+-- The record of what was decided, with these owners, goes into an area of a size.
+abbrev pub RecordFits : Decided → List ℕ → ℕ → Type 0
+RecordFits d owners area = d .number ≡ ACCEPTED → (AREA ≤ area) × (d .length ≤ LONGEST) × (length owners ≡ LONGEST)
 
 -- An answer that is no acceptance hands back the timetable as given.
 abbrev pub HandsBack : Timetable → Answer → Type 0

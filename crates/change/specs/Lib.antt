@@ -5,5 +5,4 @@ pub mod Given
 pub mod Queries
 pub mod Queried
 pub mod Controller
-pub mod Coded
 pub mod Columns

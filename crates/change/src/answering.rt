@@ -1,8 +1,7 @@
-// The answer of a search or of a refusal, and its record written to the area. A refusal hands back the timetable as given and touches no byte.
+// The answer of a request that is decided, with the timetable in force from now on. A refusal hands back the timetable as given.
 ghost use lib.ListN.{length};
 ghost use mathlib.Core.Path.{_≡_};
-ghost use Rattle.change.specs.Change.{refuse, outcomeOf, written};
-ghost use Rattle.change.specs.Coded.{GoesInto};
+ghost use Rattle.change.specs.Change.{refuse, outcomeOf, recordOf};
 ghost use Rattle.change.specs.Columns.{Decides, HandsBack};
 ghost use Rattle.change.specs.declared.Answer.{Answer};
 ghost use Rattle.numbers.specs.Numbers.{NOT-SOUND, refusal};
@@ -10,7 +9,6 @@ use crate::Answer;
 use crate::Decided;
 use crate::Outcome;
 use numbers::Refusal;
-use records::write::write_answer;
 use timetable::Timetable;
 use timetable::columns;
 
@@ -61,29 +59,11 @@ pub fn in_force(
     }
 }
 
-// An answer as it is returned: its record, if it has one, stands in the area.
-pub fn write(a: Answer, area: &mut [u8]) -> Outcome
-    requires { ⌜ GoesInto a (length (now area)) ⌝ }
-    ensures { λ r. ⌜ (r ≡ outcomeOf a) × (now (area .exit) ≡ written a (now (area .entry))) ⌝ }
+// An answer as it is returned, with the bytes written of its record.
+pub fn with_written(a: Answer, bytes: usize) -> Outcome
+    ensures { λ r. ⌜ (bytes ≡ length (recordOf a) → r ≡ outcomeOf a) ⌝ }
 {
     let timetable = a.timetable;
-    let mut bytes = 0;
-    if a.number == Refusal::ACCEPTED {
-        let owners = timetable.owners;
-        let entries = timetable.entries;
-        let mut periods = [0; Timetable::IDS];
-        let mut offsets = [0; Timetable::IDS];
-        let mut bounds = [0; Timetable::IDS];
-        let mut shortfalls = [0; Timetable::IDS];
-        columns::split(
-            entries,
-            &mut periods,
-            &mut offsets,
-            &mut bounds,
-            &mut shortfalls,
-        );
-        bytes = write_answer(area, timetable.length, &owners, &periods, &offsets);
-    }
     Outcome {
         number: a.number,
         place: a.place,

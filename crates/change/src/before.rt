@@ -1,13 +1,14 @@
 // The stages before the search, in the order of docs/RULES.md 7.2, once the timetable is known to be sound: a small area, the fields, then 6, 7 and 8. The lowest stage wins.
 ghost use lib.ListN.{length};
 ghost use mathlib.Core.Bool.{true};
+ghost use mathlib.Core.List.{List};
 ghost use mathlib.Core.Path.{_≡_};
-ghost use Prim.Native.Nat.{_-_, _≤_, _<_};
+ghost use Prim.Native.Nat.{ℕ, _-_, _≤_, _<_};
 ghost use Rattle.change.specs.Columns.{Entered, enteredFrom};
 ghost use Rattle.change.specs.Stages.{askedBound, boundBefore, entering, isBehind, stageOverfull, stageBehind, stagesFirst, stagesListed};
 ghost use Rattle.numbers.specs.Chain.{firstOf};
 ghost use Rattle.slots.specs.Limits.{IDS};
-ghost use Rattle.timetable.specs.Columns.{fromColumns, unplaced};
+ghost use Rattle.timetable.specs.Columns.{ArePeriods, fromColumns, unplaced};
 ghost use Rattle.timetable.specs.declared.Timetable.{Timetable};
 ghost use Rattle.timetable.specs.Sound.{entriesInRange, entryInRange, isSound};
 ghost use Rattle.timetable.specs.Timetable.{entryOf, isListed, shortfallAfter};
@@ -21,6 +22,7 @@ use slots::CoreSlot;
 use timetable::Entry;
 use timetable::Timetable;
 use timetable::columns;
+use timetable::weight_of;
 
 // The stages of a sound timetable that need no entries: 2, the fields and 6.
 pub fn verdict_first(base: CoreSlot, read: ReadRequest, area: usize) -> Verdict
@@ -77,9 +79,10 @@ pub fn verdict_listed(
     bounds: &[u8; Timetable::IDS],
     shortfalls: &[u16; Timetable::IDS],
 ) -> Verdict
+    requires { ⌜ ArePeriods (now periods) ⌝ }
     ensures { λ r. ⌜ r ≡ firstOf (stagesListed (unplaced (now (periods .entry)) (now (bounds .entry)) (now (shortfalls .entry)))) ⌝ }
 {
-    if let Verdict::Refused(r) = overfull(periods, bounds, shortfalls) {
+    if let Verdict::Refused(r) = overfull(periods) {
         return Verdict::Refused(r);
     }
     behind(periods, bounds, shortfalls)
@@ -123,18 +126,14 @@ fn bound_before(old: Entry) -> u8
 }
 
 // Stage 7: it names the id at which the running sum of the weights, ids rising, first passes 256.
-fn overfull(
-    periods: &[u16; Timetable::IDS],
-    bounds: &[u8; Timetable::IDS],
-    shortfalls: &[u16; Timetable::IDS],
-) -> Verdict
-    ensures { λ r. ⌜ r ≡ stageOverfull (unplaced (now (periods .entry)) (now (bounds .entry)) (now (shortfalls .entry))) ⌝ }
+fn overfull(periods: &[u16; Timetable::IDS]) -> Verdict
+    requires { ⌜ ArePeriods (now periods) ⌝ }
+    ensures { λ r. ⌜ ((bounds shortfalls : List ℕ) → r ≡ stageOverfull (unplaced (now (periods .entry)) bounds shortfalls)) ⌝ }
 {
     let mut sum: u64 = 0;
     let mut id: usize = 0;
     while id < Timetable::IDS {
-        let e = unplaced_row(periods, bounds, shortfalls, id);
-        sum += e.weight() as u64;
+        sum += weight_of(periods[id]) as u64;
         if (Timetable::WHOLE as u64) < sum {
             return Verdict::Refused(Refusal::of(Refusal::OVERFULL, id));
         }

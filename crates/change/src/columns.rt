@@ -1,8 +1,11 @@
-// The change of a sound timetable by a request, over columns of numbers that are lent: what is known to be sound is not tested again, and no timetable is copied.
+// The change of a sound timetable by a request, over columns of numbers that are lent, and its record: what is known to be sound is not tested again, and no timetable is copied.
 ghost use lib.ListN.{length, replicate};
+ghost use mathlib.Core.List.{List};
 ghost use mathlib.Core.Path.{_≡_};
-ghost use Rattle.change.specs.Change.{answer};
-ghost use Rattle.change.specs.Columns.{Decides, Ends, FoundIn, Old, SoundWith};
+ghost use Prim.Native.Nat.{ℕ};
+ghost use Rattle.change.specs.Change.{answer, recordOf, written};
+ghost use Rattle.change.specs.Columns.{Decides, Ends, FoundIn, Old, RecordFits, SoundWith};
+ghost use Rattle.change.specs.declared.Answer.{Answer};
 ghost use Rattle.slots.specs.Limits.{IDS, LONGEST};
 ghost use Rattle.timetable.specs.Columns.{fromColumns};
 ghost use Rattle.timetable.specs.declared.Timetable.{Timetable};
@@ -10,6 +13,7 @@ use crate::Decided;
 use crate::before;
 use numbers::Refusal;
 use numbers::Verdict;
+use records::write::write_answer;
 use slots::CoreSlot;
 use timetable::Timetable;
 use transition::Ending;
@@ -58,6 +62,23 @@ pub fn decide(
     }
     let found = transition::lengths::search(periods, bounds, shortfalls, owners, asked.limit);
     finish(asked.slot, found)
+}
+
+// Writes the record of what was decided, with these owners and periods, at the start of the area and gives its length: of a refusal nothing, and 0. (Public for the board alone.)
+pub fn write(
+    d: Decided,
+    owners: &[u8; Timetable::LONGEST],
+    periods: &[u16; Timetable::IDS],
+    area: &mut [u8],
+) -> usize
+    requires { ⌜ RecordFits d (now owners) (length (now area)) ⌝ }
+    ensures { λ r. ⌜ ((a : Answer) (bounds shortfalls starts : List ℕ) → Decides a d (now (owners .entry)) (now (periods .entry)) bounds shortfalls starts → (r ≡ length (recordOf a)) × (now (area .exit) ≡ written a (now (area .entry)))) ⌝ }
+{
+    if d.number != Refusal::ACCEPTED {
+        return 0;
+    }
+    let offsets = d.offsets;
+    write_answer(area, d.length, owners, periods, &offsets)
 }
 
 // A refusal before the search.

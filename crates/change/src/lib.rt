@@ -1,14 +1,17 @@
 // The change of a timetable by a request, and the two queries. Nothing is assumed checked: bad input is refused by number.
+ghost use lib.ListN.{length, replicate};
 ghost use mathlib.Core.Bool.{true};
 ghost use mathlib.Core.Path.{_≡_};
 ghost use Rattle.change.specs.Change.{answer, outcome, areaAfter};
+ghost use Rattle.change.specs.Columns.{Decides};
+ghost use Rattle.slots.specs.Limits.{IDS, LONGEST};
 ghost use Rattle.timetable.specs.Sound.{isSound};
 use slots::CoreSlot;
 use slots::SliceCount;
 use timetable::Timetable;
 
-mod answering; // answering.rt: the answer after the search, and how it is written
-pub mod columns; // columns.rt: the change of a sound timetable, over columns
+mod answering; // answering.rt: the answer of a request that is decided
+pub mod columns; // columns.rt: the change of a sound timetable and its record, over columns
 pub mod queries; // queries.rt: the owner query and the standing query
 mod before; // before.rt: the stages before the search
 
@@ -60,7 +63,7 @@ pub fn change(t: Timetable, request: &[u8], area: &mut [u8]) -> Outcome
     ensures { λ r. ⌜ (r ≡ outcome t (now (request .entry)) (now (area .entry))) × (now (area .exit) ≡ areaAfter t (now (request .entry)) (now (area .entry))) ⌝ }
 {
     if !t.is_sound() {
-        return answering::write(answering::not_sound(t), area);
+        return answering::with_written(answering::not_sound(t), 0);
     }
     change_sound(t, request, area)
 }
@@ -70,8 +73,24 @@ pub fn change_sound(t: Timetable, request: &[u8], area: &mut [u8]) -> Outcome
     requires { ⌜ isSound t ≡ true ⌝ }
     ensures { λ r. ⌜ (r ≡ outcome t (now (request .entry)) (now (area .entry))) × (now (area .exit) ≡ areaAfter t (now (request .entry)) (now (area .entry))) ⌝ }
 {
-    let decided = decide_sound(t, request, area.len());
-    answering::write(decided, area)
+    let mut owners = [0; Timetable::LONGEST];
+    let mut periods = [0; Timetable::IDS];
+    let mut bounds = [0; Timetable::IDS];
+    let mut shortfalls = [0; Timetable::IDS];
+    let mut starts = [0; Timetable::IDS];
+    let d = decide_columns(
+        t,
+        request,
+        area.len(),
+        &mut owners,
+        &mut periods,
+        &mut bounds,
+        &mut shortfalls,
+        &mut starts,
+    );
+    let bytes = columns::write(d, &owners, &periods, area);
+    let a = answering::in_force(t, d, owners, &periods, &bounds, &shortfalls, starts);
+    answering::with_written(a, bytes)
 }
 
 // The answer to a request with an answer area of a given size. No byte is written: what is decided can still be dropped.
@@ -89,29 +108,13 @@ fn decide_sound(t: Timetable, request: &[u8], area: usize) -> Answer
     requires { ⌜ isSound t ≡ true ⌝ }
     ensures { λ r. ⌜ r ≡ answer t (now (request .entry)) area ⌝ }
 {
-    let entries = t.entries;
-    let mut old_periods = [0u16; Timetable::IDS];
-    let mut old_offsets = [0u8; Timetable::IDS];
-    let mut old_bounds = [0u8; Timetable::IDS];
-    let mut old_shortfalls = [0u16; Timetable::IDS];
-    timetable::columns::split(
-        entries,
-        &mut old_periods,
-        &mut old_offsets,
-        &mut old_bounds,
-        &mut old_shortfalls,
-    );
-    let mut owners = [0u8; Timetable::LONGEST];
-    let mut periods = [0u16; Timetable::IDS];
-    let mut bounds = [0u8; Timetable::IDS];
-    let mut shortfalls = [0u16; Timetable::IDS];
-    let mut starts = [0u16; Timetable::IDS];
-    let d = columns::decide(
-        t.base,
-        &old_periods,
-        &old_offsets,
-        &old_bounds,
-        &old_shortfalls,
+    let mut owners = [0; Timetable::LONGEST];
+    let mut periods = [0; Timetable::IDS];
+    let mut bounds = [0; Timetable::IDS];
+    let mut shortfalls = [0; Timetable::IDS];
+    let mut starts = [0; Timetable::IDS];
+    let d = decide_columns(
+        t,
         request,
         area,
         &mut owners,
@@ -121,4 +124,47 @@ fn decide_sound(t: Timetable, request: &[u8], area: usize) -> Answer
         &mut starts,
     );
     answering::in_force(t, d, owners, &periods, &bounds, &shortfalls, starts)
+}
+
+// What a request gets from a timetable that is known to be sound, all owners being 0 before; where it is accepted, the figures of the new one are put in.
+fn decide_columns(
+    t: Timetable,
+    request: &[u8],
+    area: usize,
+    owners: &mut [u8; Timetable::LONGEST],
+    periods: &mut [u16; Timetable::IDS],
+    bounds: &mut [u8; Timetable::IDS],
+    shortfalls: &mut [u16; Timetable::IDS],
+    starts: &mut [u16; Timetable::IDS],
+) -> Decided
+    requires { ⌜ isSound t ≡ true ⌝ }
+    requires { ⌜ (now owners ≡ replicate LONGEST 0) × (length (now periods) ≡ IDS) × (length (now bounds) ≡ IDS) × (length (now shortfalls) ≡ IDS) × (length (now starts) ≡ IDS) ⌝ }
+    ensures { λ r. ⌜ Decides (answer t (now (request .entry)) area) r (now (owners .exit)) (now (periods .exit)) (now (bounds .exit)) (now (shortfalls .exit)) (now (starts .exit)) ⌝ }
+{
+    let entries = t.entries;
+    let mut old_periods = [0; Timetable::IDS];
+    let mut old_offsets = [0; Timetable::IDS];
+    let mut old_bounds = [0; Timetable::IDS];
+    let mut old_shortfalls = [0; Timetable::IDS];
+    timetable::columns::split(
+        entries,
+        &mut old_periods,
+        &mut old_offsets,
+        &mut old_bounds,
+        &mut old_shortfalls,
+    );
+    columns::decide(
+        t.base,
+        &old_periods,
+        &old_offsets,
+        &old_bounds,
+        &old_shortfalls,
+        request,
+        area,
+        owners,
+        periods,
+        bounds,
+        shortfalls,
+        starts,
+    )
 }

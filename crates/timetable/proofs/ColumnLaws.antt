@@ -1,16 +1,19 @@
 -- The entries that columns hold, one by one, and the columns of given entries. Assumes nothing.
+use lib.Dec.{ltb}
 use lib.ListN.{getD, getD-replicate, length, length-replicate, replicate, set}
 use lib.Seq.{ext-getD}
 use mathlib.Core.List.{List}
 use mathlib.Core.Path.{_≡_, refl, sym, ap, _∙_}
 use native.Mathlib.Omega.{arith}
 use Prim.Native.Nat.{ℕ, _+_, _≤_, _<_}
+use Rattle.slots.specs.declared.CoreSlot.{CoreSlot}
 use Rattle.slots.specs.Limits.{IDS}
 use Rattle.timetable.proofs.Entries.{each-at, length-each}
 use Rattle.timetable.proofs.Filling.{Filled, filled-next, filled-nothing}
-use Rattle.timetable.specs.Columns.{fromColumns, rowOf, unplaced}
+use Rattle.timetable.specs.Columns.{fromColumns, ofColumns, rowOf, unplaced}
 use Rattle.timetable.specs.declared.Entry.{Entry}
-use Rattle.timetable.specs.Timetable.{each, entryOf, noEntry}
+use Rattle.timetable.specs.declared.Timetable.{Timetable}
+use Rattle.timetable.specs.Timetable.{each, entryOf, isListed, lists, noEntry}
 
 module _ (periods offsets bounds shortfalls : List ℕ) where
   -- There is one for each id,
@@ -29,6 +32,17 @@ module _ (periods offsets bounds shortfalls : List ℕ) where
   columns-are es l h =
       ext-getD noEntry _ es (length-columns ∙ sym l)
       (λ i k. let j : i < IDS = omega (arith, length-columns) in columns-at i j ∙ h i j)
+
+  -- A timetable whose entries the columns hold is the one of these columns.
+  pub of-columns : (t : Timetable) → fromColumns periods offsets bounds shortfalls ≡ t .entries
+      → ofColumns (t .request) (t .length) (t .owners) (t .base) periods offsets bounds shortfalls (t .starts) ≡ t
+  of-columns t h =
+      λ j. record { request = t .request; length = t .length; owners = t .owners; base = t .base; entries = h j; starts = t .starts }
+
+  -- It lists an id that has a period.
+  pub lists-column : (request base : CoreSlot) (size : ℕ) (owners starts : List ℕ) (i : ℕ) → i < IDS
+      → lists (ofColumns request size owners base periods offsets bounds shortfalls starts) i ≡ ltb 0 (getD periods i 0)
+  lists-column request base size owners starts i k = ap isListed (columns-at i k)
 
 module _ (periods bounds shortfalls : List ℕ) (i : ℕ) (k : i < IDS) where
   -- A row that is not placed yet has offset 0,

@@ -5,7 +5,7 @@ use lib.Count.{trailingZeros}
 use lib.Dec.{eqb, ltb}
 use mathlib.Core.Bool.{Bool, true, false, _&&_}
 use mathlib.Core.Path.{_≡_, refl, sym, ap, _∙_}
-use native.Mathlib.Decide.{decLt}
+use native.Mathlib.Decide.{ℕ-discrete, decLt}
 use native.Mathlib.Nat.{add-mul, mul-assoc, div-zero, div-le-self, div-lt-iff-lt-mul, min-eq-left, min-eq-right, mod-lt, mul-comm, mul-div-mul-right, mul-le-mul, mul-le-mul-right, mul-lt-mul-of-pos-right}
 use native.Mathlib.Omega.{arith}
 use Prim.Native.Nat.{ℕ, zero, suc, _+_, _-_, _*_, _/_, _%_, _^_, _≤_, _<_}
@@ -13,9 +13,9 @@ use Rattle.slots.proofs.Windows.{over-still}
 use Rattle.slots.specs.Limits.{WHOLE, LARGEST-BOUND}
 use Rattle.slots.specs.Shortfall.{keeps, overSlot, weightOf, roomOf, lastOffsetOf}
 use Rattle.timetable.proofs.Cycle.{shortfall-before, shortfall-after, weight-pos}
-use Rattle.timetable.proofs.Ranges.{InRange, Period, in-range-from, period-le, period-pos, period-whole, period-zeros}
+use Rattle.timetable.proofs.Ranges.{InRange, Period, in-range-from, period-from, period-le, period-pos, period-whole, period-zeros}
 use Rattle.timetable.specs.declared.Entry.{Entry}
-use Rattle.timetable.specs.Sound.{entryInRange}
+use Rattle.timetable.specs.Sound.{entryInRange, isPeriod}
 use Rattle.timetable.specs.Timetable.{weight, room, cyclic, shortfallAfter}
 
 -- Listed means a period other than 0.
@@ -30,14 +30,14 @@ pub weight-none : (p : ℕ) → p ≡ 0 → weightOf p ≡ 0
 unfolding weightOf
 weight-none p h = rw h (div-zero WHOLE)
 
-pub weight-is : (p : ℕ) → weightOf p ≡ WHOLE / p
-unfolding weightOf
-weight-is p = refl
-
--- A shift by the zeros of a period divides by it.
-pub weight-shift : (p : ℕ) → Period p → WHOLE / 2 ^ trailingZeros 16 p ≡ weightOf p
-unfolding weightOf
-weight-shift p r = ap (λ (x : ℕ). WHOLE / x) (period-zeros p r .1)
+-- A shift by the zeros of a period divides 256 by it, and the 16 zeros of 0 shift all away.
+pub weight-shift : (p : ℕ) → (0 < p → isPeriod p ≡ true) → (trailingZeros 16 p ≤ 16) × (WHOLE / 2 ^ trailingZeros 16 p ≡ weightOf p)
+unfolding trailingZeros weightOf
+weight-shift p h = at (ℕ-discrete p 0)
+  where
+    at : Dec (p ≡ 0) → (trailingZeros 16 p ≤ 16) × (WHOLE / 2 ^ trailingZeros 16 p ≡ weightOf p)
+    at (yes z) = rw z (omega arith, sym (weight-none 0 refl))
+    at (no z) = let r = period-zeros p (period-from p (h (omega arith))) in (omega (arith, r .0), ap (λ (x : ℕ). WHOLE / x) (r .1))
 
 pub weight-le : (p : ℕ) → weightOf p ≤ WHOLE
 unfolding weightOf

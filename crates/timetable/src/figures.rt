@@ -1,15 +1,14 @@
-// The figures of one entry: its weight, room and last offset, and what it has been owed and given n slots after the base. Nothing here is refused.
+// The figures of one entry: its room and last offset, the weight of its period, and what it has been owed and given n slots after the base. Nothing here is refused.
 ghost use mathlib.Core.Bool.{true};
 ghost use mathlib.Core.Path.{_≡_};
 ghost use Prim.Native.Nat.{_+_, _-_, _%_, _<_};
 ghost use Rattle.slots.specs.Clocks.{sliceCount};
 ghost use Rattle.slots.specs.Limits.{WHOLE};
-ghost use Rattle.slots.specs.Shortfall.{overSlot};
+ghost use Rattle.slots.specs.Shortfall.{overSlot, weightOf};
 ghost use Rattle.timetable.specs.Sound.{entryInRange, isPeriod};
-ghost use Rattle.timetable.specs.Timetable.{isListed, weight, room, lastOffset, cyclic, shortfallAfter, slicesAfter};
+ghost use Rattle.timetable.specs.Timetable.{isListed, room, lastOffset, cyclic, shortfallAfter, slicesAfter};
 use crate::Entry;
 use crate::Timetable;
-use crate::soundness::is_period;
 use slots::SliceCount;
 
 impl Entry {
@@ -18,20 +17,6 @@ impl Entry {
         ensures { λ r. ⌜ r ≡ isListed self ⌝ }
     {
         0 < self.period
-    }
-
-    // Its weight, 256 / period; 0 for an entry that is not listed. A period in range is a power of two, and a shift divides by it.
-    pub fn weight(self) -> u16
-        ensures { λ r. ⌜ r ≡ weight self ⌝ }
-    {
-        let p = self.period;
-        if is_period(p) {
-            return Timetable::WHOLE >> u16::trailing_zeros(p);
-        }
-        if p == 0 {
-            return 0;
-        }
-        Timetable::WHOLE / p
     }
 
     // Its room: the further idle slots it can bear. Dividing by the weight, 256 / period, is multiplying by the period and dividing by 256.
@@ -76,7 +61,7 @@ impl Entry {
         if self.period == 0 {
             return self.shortfall;
         }
-        let w = self.weight();
+        let w = weight_of(self.period);
         let offset = self.offset as u64;
         if n <= offset {
             return self.shortfall + (n as u16) * w;
@@ -97,6 +82,14 @@ impl Entry {
         }
         SliceCount((n - offset - 1) / (self.period as u64) + 1)
     }
+}
+
+// The weight of a period, 256 / period; 0 for an id that is not listed. A period is a power of two, so a shift divides by it, and 16 zeros shift all away.
+pub fn weight_of(period: u16) -> u16
+    requires { ⌜ (0 < period → isPeriod period ≡ true) ⌝ }
+    ensures { λ r. ⌜ r ≡ weightOf period ⌝ }
+{
+    ((Timetable::WHOLE as u32) >> u16::trailing_zeros(period)) as u16
 }
 
 // How far n slots reach into a period: the remainder by a power of two is its lowest bits.

@@ -10,6 +10,9 @@ mod soundness; // soundness.rt: whether a timetable is sound
 mod serving; // serving.rt: whom it lists, whom a slot serves, and each id's shortfall and slices at a slot
 
 pub use figures::over_slot;
+pub use figures::weight_of;
+pub use serving::owner_at;
+pub use serving::standing_at;
 pub use soundness::are_sound;
 pub use soundness::is_bound;
 

@@ -17,6 +17,7 @@ use crate::Entry;
 use crate::Timetable;
 use crate::columns;
 use crate::figures::after_own;
+use crate::figures::weight_of;
 use slots::CoreSlot;
 
 // A word marks this many slots, one bit each: slot n is bit n % 64 of word n / 64.
@@ -141,7 +142,7 @@ fn entries_fit(
         if !take_slots(&mut taken, e) {
             return false;
         }
-        let w = e.weight();
+        let w = weight_of(e.period);
         weights[id] = w;
         owed[id] = start + w * size;
         id += 1;

@@ -1,7 +1,6 @@
 -- One more transition slot as the code finds it: the most urgent id one id at a time, a missed slot by one id that cannot bear it, and the plan that follows.
 -- Assumes nothing.
 use borrow.Author.Tests.{lt-ltb, le-ltb, eq-eqb, ne-eqb, eqb-true}
-use lib.Count.{trailingZeros}
 use lib.Dec.{eqb, ltb}
 use lib.ListN.{getD, length, length-set, replicate, set}
 use lib.Seq.{getD-set-same, getD-set-other}
@@ -319,15 +318,6 @@ module _ (periods bounds shortfalls : List ℕ) (h : entriesInRange (unplaced pe
         more (inr y) = y .1 ∙ s .counted ∙ sym (pressed-room es n r is-room (y .0))
 
 -- ---- the weights
-
--- The zeros of a period, or of 0, shift 256 to its weight.
-pub zeros-weight : (p : ℕ) → (0 < p → isPeriod p ≡ true) → (trailingZeros 16 p ≤ 16) × (WHOLE / 2 ^ trailingZeros 16 p ≡ weightOf p)
-unfolding trailingZeros
-zeros-weight p h = at (ℕ-discrete p 0)
-  where
-    at : Dec (p ≡ 0) → (trailingZeros 16 p ≤ 16) × (WHOLE / 2 ^ trailingZeros 16 p ≡ weightOf p)
-    at (yes z) = rw z (omega arith, sym (weight-none 0 refl))
-    at (no z) = let r = period-from p (h (omega arith)) in (omega (arith, period-zeros p r .0), weight-shift p r)
 
 -- The entries over a slot are those of the shortfalls over it.
 over-columns : (periods bounds shortfalls after : List ℕ) (u : ℕ) → OverSlot periods u shortfalls after

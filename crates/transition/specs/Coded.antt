@@ -8,9 +8,9 @@ use mathlib.Core.Path.{_≡_}
 use Prim.Native.Nat.{ℕ, _+_, _*_, _<_}
 use Rattle.slots.specs.Limits.{IDS, WHOLE, LARGEST-BOUND}
 use Rattle.slots.specs.Shortfall.{overSlot, weightOf}
-use Rattle.timetable.specs.Columns.{unplaced}
+use Rattle.timetable.specs.Columns.{ArePeriods, unplaced}
 use Rattle.timetable.specs.declared.Entry.{Entry}
-use Rattle.timetable.specs.Sound.{entriesInRange, isPeriod}
+use Rattle.timetable.specs.Sound.{entriesInRange}
 use Rattle.timetable.specs.Timetable.{entryOf}
 use Rattle.transition.specs.Plan.{Plan, Searched}
 use Rattle.transition.specs.declared.Urgent.{Urgent}
@@ -33,7 +33,7 @@ nextOf plan (some next) = (true, next)
 -- Each period is one, or 0, and each shortfall can rise by a weight: it is below 256 R for the largest R.
 pub record Rising (periods shortfalls : List ℕ) : Type 0 where
   pub size : length shortfalls ≡ IDS
-  pub period : (i : ℕ) → i < IDS → 0 < getD periods i 0 → isPeriod (getD periods i 0) ≡ true
+  pub period : ArePeriods periods
   pub below : (i : ℕ) → i < IDS → getD shortfalls i 0 < WHOLE * LARGEST-BOUND
 
 -- The shortfalls over one slot that goes to u.

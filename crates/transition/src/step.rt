@@ -4,15 +4,16 @@ ghost use mathlib.Core.Bool.{true};
 ghost use mathlib.Core.Path.{_≡_};
 ghost use Prim.Native.Nat.{_<_};
 ghost use Rattle.slots.specs.Limits.{IDS, LONGEST};
-ghost use Rattle.slots.specs.Shortfall.{roomOf, weightOf};
+ghost use Rattle.slots.specs.Shortfall.{roomOf};
 ghost use Rattle.timetable.specs.Columns.{unplaced};
-ghost use Rattle.timetable.specs.Sound.{entriesInRange, entryInRange, isPeriod};
+ghost use Rattle.timetable.specs.Sound.{entriesInRange, entryInRange};
 ghost use Rattle.transition.specs.Coded.{nextOf, ownerOf, planOf, OverSlot, Rising};
 ghost use Rattle.transition.specs.Transition.{longer};
 use crate::Urgent;
 use timetable::Entry;
 use timetable::Timetable;
 use timetable::over_slot;
+use timetable::weight_of;
 
 // Gives transition slot n to the most urgent, or changes nothing where it is missed.
 pub fn longer(
@@ -98,12 +99,4 @@ fn over_all(periods: &[u16; Timetable::IDS], shortfalls: &mut [u16; Timetable::I
         id += 1;
     }
     shortfalls[u] = own;
-}
-
-// The weight of a period, 256 / period; 0 for an id that is not listed. A period is a power of two, so a shift divides by it, and 16 zeros shift all away.
-fn weight_of(period: u16) -> u16
-    requires { ⌜ (0 < period → isPeriod period ≡ true) ⌝ }
-    ensures { λ r. ⌜ r ≡ weightOf period ⌝ }
-{
-    ((Timetable::WHOLE as u32) >> u16::trailing_zeros(period)) as u16
 }

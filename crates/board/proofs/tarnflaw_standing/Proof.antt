@@ -1,5 +1,6 @@
 -- Bytes that are no image are refused; on an image it is the standing query on the timetable that it holds. Assumes nothing.
 use borrow.Author.Needs.{needs}
+use mathlib.Core.Path.{refl}
 use Rattle.board.proofs.BoardLaws.{standing-no-image, standing-told}
 use Rattle.board.proofs.tarnflaw_standing.Statement.{statement}
 use Rattle.board.proofs.tarnflaw_standing.Tie as tie
@@ -7,17 +8,13 @@ use Rattle.board.proofs.tarnflaw_standing.Tie as tie
 returns : tie.Need-returns
 returns c = standing-no-image (c .before .before .args .image .now) (c .if1 .taken) (c .before .before .args .id) (c .before .before .args .slot)
 
-timetable-of-requires : tie.Need-timetable-of-requires
-timetable-of-requires c κs = search needs
-
-standing-query-requires : tie.Need-standing-query-requires
-standing-query-requires c κs = search needs
+standing-of-image-requires : tie.Need-standing-of-image-requires
+standing-of-image-requires c κs = search needs
 
 returns-2 : tie.Need-returns-2
 returns-2 c =
-    let s = c .before .before .before .before in
-    standing-told (s .args .image .now) (c .before .before .if1 .left) _ (c .before .timetable-of .ensures) (s .args .id) (s .args .slot) (c .standing-query .result) (c .standing-query .ensures)
+    let s = c .before .before .before in
+    standing-told (s .args .image .now) (c .before .if1 .left) _ refl (s .args .id) (s .args .slot) (c .standing-of-image .result) (c .standing-of-image .ensures)
 
 pub tarnflaw-standing-spec : {M : Type 1} → statement M
-tarnflaw-standing-spec =
-    tie.close (tie.spec returns timetable-of-requires standing-query-requires returns-2)
+tarnflaw-standing-spec = tie.close (tie.spec returns standing-of-image-requires returns-2)

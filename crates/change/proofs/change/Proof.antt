@@ -1,8 +1,13 @@
 -- `change` tests soundness, the first stage, and changes a timetable that is sound. Assumes nothing.
 use borrow.Author.Needs.{needs}
 use denote.Ref.{now}
+use lib.ListN.{length}
+use lib.Seq.{sets}
+use mathlib.Core.List.{List}
 use mathlib.Core.Path.{refl, sym, ap, _∙_}
 use native.Mathlib.Omega.{arith}
+use Prim.Native.Nat.{ℕ}
+use Rattle.change.proofs.Answers.{record-none}
 use Rattle.change.proofs.Passing.{answer-unsound}
 use Rattle.change.specs.Change.{areaAfter, outcome, outcomeOf, written}
 use Rattle.change.specs.declared.Answer.{Answer}
@@ -16,27 +21,24 @@ is-sound-requires c κs = search needs
 not-sound-requires : tie.Need-not-sound-requires
 not-sound-requires c κs = search needs
 
-write-requires : tie.Need-write-requires
-write-requires c κs z = absurd (omega (arith, z, ap (λ (x : Answer). x .number) (c .before .not-sound .ensures)))
-
-same-length : tie.Need-same-length
-same-length c = search needs
+with-written-requires : tie.Need-with-written-requires
+with-written-requires c κs = search needs
 
 returns : tie.Need-returns
 unfolding outcome areaAfter
 returns c =
-    let w = c .before .before in
-    let n = w .before .before in
+    let n = c .before in
     let i = n .before in
-    let a = c .before .before .before .before .before .before .before .before .before .args in
+    let a = i .before .before .before .before .args in
     let e = n .not-sound .ensures ∙ sym (answer-unsound (a .t) _ _ _ refl (refused _ _ (i .before .is-sound .ensures) (i .if1 .taken))) in
-    (w .write .ensures .0 ∙ ap outcomeOf e, w .write .ensures .1 ∙ ap (λ (x : Answer). written x (now (a .area))) e)
+    let none = sym (record-none (n .not-sound .result) (λ z. omega (arith, z, ap (λ (x : Answer). x .number) (n .not-sound .ensures)))) in
+    (c .with-written .ensures (ap (λ (x : List ℕ). length x) none) ∙ ap outcomeOf e, ap (sets (now (a .area)) 0) none ∙ ap (λ (x : Answer). written x (now (a .area))) e)
 
 change-sound-requires : tie.Need-change-sound-requires
 change-sound-requires c κs = passed _ _ (c .before .before .is-sound .ensures) (c .before .if1 .left)
 
-same-length-2 : tie.Need-same-length-2
-same-length-2 c = search needs
+same-length : tie.Need-same-length
+same-length c = search needs
 
 returns-2 : tie.Need-returns-2
 returns-2 c = search needs
@@ -47,9 +49,8 @@ change-spec =
     (tie.spec
     is-sound-requires
     not-sound-requires
-    write-requires
-    same-length
+    with-written-requires
     returns
     change-sound-requires
-    same-length-2
+    same-length
     returns-2)

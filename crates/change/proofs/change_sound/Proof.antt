@@ -1,22 +1,26 @@
--- `change_sound` decides, and writes what was decided. Assumes nothing.
+-- `change_sound` decides over columns, writes the record of what was decided, and joins what is in force. Assumes nothing.
 use borrow.Author.Needs.{needs}
 use denote.Ref.{now}
 use lib.ListN.{length}
-use mathlib.Core.Path.{sym, ap, _∙_, subst}
-use Rattle.change.proofs.Passing.{goes-into}
-use Rattle.change.specs.Change.{outcomeOf, written, outcome, areaAfter}
-use Rattle.change.specs.Coded.{GoesInto}
+use mathlib.Core.Path.{refl, sym, ap, _∙_}
+use Rattle.change.proofs.DecideLaws.{record-fits}
+use Rattle.change.proofs.Passing.{hands-back}
+use Rattle.change.specs.Change.{areaAfter, outcome, outcomeOf, recordOf}
 use Rattle.change.specs.declared.Answer.{Answer}
 use Rattle.change.proofs.change_sound.Statement.{statement}
 use Rattle.change.proofs.change_sound.Tie as tie
 
-decide-sound-requires : tie.Need-decide-sound-requires
-decide-sound-requires c κs = search needs
+decide-columns-requires : tie.Need-decide-columns-requires
+decide-columns-requires c κs = (c .before .before .before .before .before .before .before .pre, (refl, refl, refl, refl, refl))
 
 write-requires : tie.Need-write-requires
-write-requires c κs =
-    let a = c .before .before .before .before .args in
-    subst (λ (x : Answer). GoesInto x (length (now (a .area)))) (sym (c .before .decide-sound .ensures)) (goes-into (a .t) (now (a .request)) (length (now (a .area))))
+write-requires c κs = record-fits _ _ _ _ _ _ _ _ _ (c .before .before .before .decide-columns .ensures)
+
+in-force-requires : tie.Need-in-force-requires
+in-force-requires c κs = search needs
+
+with-written-requires : tie.Need-with-written-requires
+with-written-requires c κs = search needs
 
 same-length : tie.Need-same-length
 same-length c = search needs
@@ -24,10 +28,22 @@ same-length c = search needs
 returns : tie.Need-returns
 unfolding outcome areaAfter
 returns c =
-    let w = c .before .before in
-    let d = w .before .before in
-    let a = d .before .before .before .args in
-    (w .write .ensures .0 ∙ ap outcomeOf (d .decide-sound .ensures), w .write .ensures .1 ∙ ap (λ (x : Answer). written x (now (a .area))) (d .decide-sound .ensures))
+    let f = c .before in
+    let w = f .before .before .before .before .before .before in
+    let d = w .before .before .before .before in
+    let a = d .before .before .before .before .before .before .before .before .args in
+    let k = d .decide-columns .ensures in
+    let r = w .write .ensures _ _ _ _ k in
+    let g = f .in-force .ensures _ (hands-back (a .t) (now (a .request)) (length (now (a .area)))) k in
+    (c .with-written .ensures (r .0 ∙ sym (ap (λ (x : Answer). length (recordOf x)) g)) ∙ ap outcomeOf g, r .1)
 
 pub change-sound-spec : {M : Type 1} → statement M
-change-sound-spec = tie.close (tie.spec decide-sound-requires write-requires same-length returns)
+change-sound-spec =
+    tie.close
+    (tie.spec
+    decide-columns-requires
+    write-requires
+    in-force-requires
+    with-written-requires
+    same-length
+    returns)

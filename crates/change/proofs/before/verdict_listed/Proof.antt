@@ -8,7 +8,7 @@ use Rattle.change.proofs.before.verdict_listed.Statement.{statement}
 use Rattle.change.proofs.before.verdict_listed.Tie as tie
 
 overfull-requires : tie.Need-overfull-requires
-overfull-requires c κs = search needs
+overfull-requires c κs = c .pre
 
 enum-known-r : tie.Need-enum-known-r
 enum-known-r c = search needs
@@ -17,7 +17,7 @@ returns : tie.Need-returns
 unfolding stagesListed
 returns c =
     let o = c .before .before .before in
-    sym (first-refused _ _ _ (sym (o .overfull .ensures) ∙ c .before .r .given .1))
+    sym (first-refused _ _ _ (sym (o .overfull .ensures _ _) ∙ c .before .r .given .1))
 
 enum-told : tie.Need-enum-told
 enum-told c = search needs
@@ -32,7 +32,7 @@ returns-2 c =
     let a = o .before .args in
     c .behind .ensures
     ∙ sym
-    (first-passed _ _ (sym (o .overfull .ensures) ∙ c .before .enum-told .given .1)
+    (first-passed _ _ (sym (o .overfull .ensures _ _) ∙ c .before .enum-told .given .1)
     ∙ first-one (stageBehind (unplaced (a .periods .now) (a .bounds .now) (a .shortfalls .now))))
 
 pub verdict-listed-spec : {M : Type 1} → statement M

@@ -6,7 +6,8 @@ use mathlib.Core.Path.{_≡_, sym, ap, _∙_, subst}
 use native.Mathlib.Omega.{arith}
 use Prim.Native.Nat.{ℕ, _≤_}
 use Rattle.change.proofs.DecideLaws.{decides-refused, decides-searched, plan-is, starts-are}
-use Rattle.change.proofs.Passing.{answer-first, answer-listed, answer-searched, first-number, first-passes, holds, listed-number, passes, ready-plan}
+use Rattle.change.proofs.EnterLaws.{entered-periods}
+use Rattle.change.proofs.Passing.{answer-first, answer-listed, answer-searched, first-number, first-passes, first-range, holds, listed-number, passes, ready-plan}
 use Rattle.change.specs.Columns.{Old}
 use Rattle.change.specs.Stages.{stagesFirst}
 use Rattle.numbers.specs.Chain.{firstOf}
@@ -29,7 +30,7 @@ first f t o = sym (f .before .before .verdict-first .ensures t (o .sound) (o .ba
 
 -- and the slot is not before the base.
 later : (f : tie.After-enum-told) (t : Timetable) → OldOf (f .before .before .before .before .before) t → f .before .before .before .before .before .args .base .0 ≤ f .before .before .before .read-request .result .request .slot .0
-later f t o = omega (arith, first-passes t _ _ (first f t o) .1, ap (λ (x : CoreSlot). x .0) (o .base-is))
+later f t o = omega (arith, first-passes t _ _ (first f t o) .2, ap (λ (x : CoreSlot). x .0) (o .base-is))
 
 read-request-requires : tie.Need-read-request-requires
 read-request-requires c κs = search needs
@@ -62,7 +63,12 @@ enter-all-requires c κs =
     ((ranged-is _ (subst Ranged (w .1 .entries-are) (sound-from (w .0) (w .1 .sound) .ranged)), later f (w .0) (w .1)), (s .pre .1 .1, s .pre .1 .2, s .pre .1 .3, s .pre .1 .4))
 
 verdict-listed-requires : tie.Need-verdict-listed-requires
-verdict-listed-requires c κs = search needs
+verdict-listed-requires c κs =
+    let e = c .before .before .before in
+    let f = e .before .before .before .before .before .before in
+    let w = f .before .before .before .before .before .pre .0 in
+    let q = f .before .before .before .read-request .ensures in
+    entered-periods _ _ _ _ _ _ _ (e .enter-all .ensures) (first-range (w .0) _ _ _ q (first f (w .0) (w .1)) .asks)
 
 enum-known-listed : tie.Need-enum-known-listed
 enum-known-listed c = search needs

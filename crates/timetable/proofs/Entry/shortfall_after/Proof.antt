@@ -19,7 +19,7 @@ range : (c : tie.Else1) → entryInRange (c .before .before .args .self) ≡ tru
 range c = let s = c .before .before in s .pre (listed (s .args .self .period) (c .if1 .left))
 
 -- What is owed up to the first own slot, in it, and since the last one, once the weight is known.
-module _ (c : tie.After-weight) where
+module _ (c : tie.After-weight-of) where
   abbrev self : Entry
   self = c .before .before .before .args .self
 
@@ -27,22 +27,22 @@ module _ (c : tie.After-weight) where
   n = c .before .before .before .args .n
 
   abbrev w : ℕ
-  w = c .weight .result
+  w = c .weight-of .result
 
   early : n ≤ self .offset → self .shortfall + n * w < WHOLE * LARGEST-BOUND
-  early = before-small self (range (c .before)) w (c .weight .ensures) n
+  early = before-small self (range (c .before)) w (c .weight-of .ensures) n
 
   owed : self .shortfall + self .offset * w + w < WHOLE * (LARGEST-BOUND + 1)
-  owed = owed-small self (range (c .before)) w (c .weight .ensures)
+  owed = owed-small self (range (c .before)) w (c .weight-of .ensures)
 
   since : (n - self .offset - 1) % self .period * w < WHOLE
-  since = since-small self (range (c .before)) w (c .weight .ensures) (n - self .offset - 1)
+  since = since-small self (range (c .before)) w (c .weight-of .ensures) (n - self .offset - 1)
 
 returns : tie.Need-returns
 returns c = let a = c .before .before .args in sym (after-absent (a .self) (a .n) (c .if1 .taken))
 
-weight-requires : tie.Need-weight-requires
-weight-requires c κs = search needs
+weight-of-requires : tie.Need-weight-of-requires
+weight-of-requires c κs h = period-is (c .before .before .args .self .period) (in-range-from (c .before .before .args .self) (range c) .period)
 
 cast-offset : tie.Need-cast-offset
 cast-offset c = search needs
@@ -59,7 +59,7 @@ add-result c = omega (arith, early (c .before .before .before) (c .before .if2 .
 returns-2 : tie.Need-returns-2
 returns-2 c =
     let k = c .before .before .before in
-    before-is (self k) (range (k .before)) (w k) (k .weight .ensures) (n k) (c .before .if2 .taken)
+    before-is (self k) (range (k .before)) (w k) (k .weight-of .ensures) (n k) (c .before .if2 .taken)
 
 sub-phase : tie.Need-sub-phase
 sub-phase c = search needs
@@ -106,7 +106,7 @@ returns-3 : tie.Need-returns-3
 returns-3 c =
     let f = c .before .before .before in
     let k = f .before .before .before in
-    let a = after-is (self k) (range (k .before)) (w k) (k .weight .ensures) (n k) (f .before .if2 .left) in
+    let a = after-is (self k) (range (k .before)) (w k) (k .weight-of .ensures) (n k) (f .before .if2 .left) in
     omega (arith, c .after-own .ensures, a, ap (λ (x : ℕ). x * w k) (f .phase .ensures))
 
 pub shortfall-after-spec : {M : Type 1} → statement M
@@ -114,7 +114,7 @@ shortfall-after-spec =
     tie.close
     (tie.spec
     returns
-    weight-requires
+    weight-of-requires
     cast-offset
     cast-result
     mul-result

@@ -1,5 +1,6 @@
 -- `entries_fit` meets its contract: the loop's invariant is that each id below `id` passes every test, and that its figures are put in. Assumes nothing.
 use borrow.Author.Needs.{needs}
+use borrow.Author.Tests.{lt-ltb}
 use lib.ListN.{getD}
 use mathlib.Core.Bool.{true}
 use mathlib.Core.List.{List}
@@ -9,6 +10,7 @@ use Prim.Native.Nat.{_+_, _-_, _*_, _≤_, _<_}
 use Rattle.slots.specs.Limits.{IDS}
 use Rattle.timetable.proofs.ColumnLaws.{columns-at}
 use Rattle.timetable.proofs.FitLaws.{Fitting, fit-all, fit-shared, fit-unborne, fit-unformed, fitting-next, fitting-none, unserved-small}
+use Rattle.timetable.proofs.Ranges.{in-range-from, period-is}
 use Rattle.timetable.proofs.ScanLaws.{passed}
 use Rattle.timetable.proofs.SoundLaws.{formed, formed-listed}
 use Rattle.timetable.specs.Columns.{fromColumns}
@@ -84,8 +86,11 @@ returns-3 c =
     let s = r .before .before .before in
     fit-shared (entries s) (s .args .starts .now) (s .args .length) (l .id) (r .before .loop-test .taken) (r .row .result) (here r) (l .taken) (l .weights) (l .owed) (l .inv .1) _ _ (c .before .take-slots .ensures) (c .if3 .taken)
 
-weight-requires : tie.Need-weight-requires Inv-loop μ-loop
-weight-requires c κs = search needs
+weight-of-requires : tie.Need-weight-of-requires Inv-loop μ-loop
+weight-of-requires c κs h =
+    let k = c .before .before .before .before .before in
+    let e = k .before .before .before .row .result in
+    period-is (e .period) (in-range-from e (sym (formed-listed e (lt-ltb 0 (e .period) h)) ∙ well k) .period)
 
 mul-weights : tie.Need-mul-weights Inv-loop μ-loop
 mul-weights c = search needs
@@ -94,17 +99,17 @@ element-write-weights : tie.Need-element-write-weights Inv-loop μ-loop
 element-write-weights c = c .before .before .before .before .before .before .before .before .before .before .loop-test .taken
 
 -- The sum is small.
-small : (c : tie.After-weight Inv-loop μ-loop)
+small : (c : tie.After-weight-of Inv-loop μ-loop)
     → getD (c .before .before .before .before .before .before .before .before .before .before .before .before .args .starts .now)
     (c .before .before .before .before .before .before .before .before .before .before .before .loop .id)
     0
-    + c .weight .result * c .before .before .before .before .before .before .before .before .before .before .before .before .args .length
+    + c .weight-of .result * c .before .before .before .before .before .before .before .before .before .before .before .before .args .length
     < 65536
 small c =
     let e = c .before .before .before .before in
     let k = e .before .before in
     let r = k .before .before .before in
-    unserved-small (r .row .result) _ _ (c .weight .result) (well k) (passed _ _ (e .before .bears .ensures) (e .if2 .left)) (r .before .before .before .pre .0) (c .weight .ensures)
+    unserved-small (r .row .result) _ _ (c .weight-of .result) (well k) (passed _ _ (e .before .bears .ensures) (e .if2 .left)) (r .before .before .before .pre .0) (c .weight-of .ensures)
 
 mul-owed : tie.Need-mul-owed Inv-loop μ-loop
 mul-owed c = omega (arith, small c)
@@ -134,7 +139,7 @@ loop-again c =
     let s = r .before .before .before in (
       omega (arith, r .before .loop-test .taken),
       fitting-next (entries s) (s .args .starts .now) (s .args .length) (l .id) (r .before .loop-test .taken) (r .row .result) (here r) (l .taken) (l .weights) (l .owed) (l .inv .1) _ _
-          (g .before .take-slots .ensures) _ _ (k .before .is-well-formed .ensures) (k .if1 .left) (e .before .bears .ensures) (e .if2 .left) (g .if3 .left) (c .weight .result) (c .weight .ensures),
+          (g .before .take-slots .ensures) _ _ (k .before .is-well-formed .ensures) (k .if1 .left) (e .before .bears .ensures) (e .if2 .left) (g .if3 .left) (c .weight-of .result) (c .weight-of .ensures),
     )
 
 returns-4 : tie.Need-returns-4 Inv-loop μ-loop
@@ -159,7 +164,7 @@ entries-fit-spec =
     returns-2
     take-slots-requires
     returns-3
-    weight-requires
+    weight-of-requires
     mul-weights
     element-write-weights
     mul-owed
