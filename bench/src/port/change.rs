@@ -1,6 +1,6 @@
 //! The change of a timetable by a request: the stages in their order, then the search.
 
-use crate::entry::Entry;
+use crate::entry::{weight_of, Entry};
 use crate::number::{ACCEPTED, BEHIND, NOT_SOUND, OVERFULL, SMALL_AREA, TOO_EARLY};
 use crate::records::{read_request, write_answer, Request};
 use crate::search::{search, Listed, Searched};
@@ -76,7 +76,7 @@ fn entering<'a>(
         if ask.period == 0 {
             continue;
         }
-        let weight = WHOLE / ask.period;
+        let weight = weight_of(ask.period);
         weights += weight;
         if weights > WHOLE {
             return Err(Refusal::at(OVERFULL, id));

@@ -11,6 +11,11 @@ pub struct Entry {
     pub shortfall: u16,
 }
 
+/// The weight of a period, 256 / period: it is a power of two.
+pub fn weight_of(period: u16) -> u16 {
+    WHOLE >> period.trailing_zeros()
+}
+
 impl Entry {
     /// Whether the id is listed.
     pub fn is_listed(&self) -> bool {
@@ -33,7 +38,7 @@ impl Entry {
 
     /// The weight of a listed entry.
     pub fn weight(&self) -> u16 {
-        WHOLE / self.period
+        weight_of(self.period)
     }
 
     /// In range where listed; where not, all zero but for a shortfall below 256 x the largest R.
