@@ -96,12 +96,13 @@ static size_t deepest;
 /* Paints the stack below its own frame, makes the call, and looks how far the paint is gone: the thread's begin and end use the stack too. */
 static void *on_stack(void *call) {
     volatile uint8_t here;
-    volatile uint8_t *byte;
+    volatile uint8_t *painted = stack;
+    size_t top = (uintptr_t)&here - (uintptr_t)stack;
     size_t untouched = 0;
-    for (byte = stack; byte < &here - FRAME; byte++) *byte = PAINT;
+    for (size_t n = 0; n + FRAME < top; n++) painted[n] = PAINT;
     (*(void (**)(void))call)();
-    while (stack[untouched] == PAINT) untouched++;
-    deepest = (size_t)(&here - stack) - untouched;
+    while (painted[untouched] == PAINT) untouched++;
+    deepest = top - untouched;
     return NULL;
 }
 
