@@ -1,6 +1,7 @@
 -- What each exported function returns and leaves, from its test of the image's length and the answer that it got. Assumes nothing.
 use borrow.Author.Tests.{eq-eqb, ne-eqb}
 use lib.ListN.{length, replicate}
+use lib.Seq.{sets}
 use mathlib.Core.Bool.{false}
 use mathlib.Core.List.{List}
 use mathlib.Core.Logic.{_≢_}
@@ -8,9 +9,10 @@ use mathlib.Core.Path.{_≡_, refl, sym, ap, _∙_}
 use native.Mathlib.Omega.{arith}
 use Prim.Native.Nat.{ℕ}
 use Rattle.board.specs.Image.{Changed, IMAGE, OwnerTold, StandingTold, areaAfterImage, emptyImage, emptyNumber, imageAfter, imageAnswer, imageOf, imageOwner, imageStanding, timetableAt}
+use Rattle.change.proofs.DecideLaws.{record-decided}
 use Rattle.change.proofs.Passing.{answer-unsound}
 use Rattle.change.specs.Change.{answer, recordOf, refuse, written}
-use Rattle.change.specs.Columns.{Decides}
+use Rattle.change.specs.Columns.{Decides, decidedRecord}
 use Rattle.change.specs.declared.Answer.{Answer}
 use Rattle.change.specs.declared.Decided.{Decided}
 use Rattle.change.specs.declared.OwnerAnswer.{OwnerAnswer}
@@ -114,29 +116,31 @@ module _ (image : List ℕ) (e : length image ≡ IMAGE) where
 
       module _ (d : Decided) (owners periods bounds shortfalls starts : List ℕ)
           (k : Decides (answer t request (length area)) d owners periods bounds shortfalls starts) where
-        -- What was decided, with the bytes written, the image and the area left.
-        left : (bytes : ℕ) (after area-after : List ℕ) → bytes ≡ length (recordOf (answer t request (length area)))
-            → after ≡ imageAfter image request (length area) → area-after ≡ written (answer t request (length area)) area
+        -- What was decided, with its record written, and the image left.
+        left : (bytes : ℕ) (after area-after : List ℕ) → after ≡ imageAfter image request (length area)
+            → (bytes ≡ length (decidedRecord d owners periods)) × (area-after ≡ sets area 0 (decidedRecord d owners periods))
             → Changed image request area (d .number) (d .place) (d .tries) bytes after area-after
-        left bytes after area-after b i r =
-            rw (k .number, k .place, k .tries, b, r) (told image request area after (answer t request (length area)) gets i)
+        left bytes after area-after i w =
+            let r = record-decided d owners periods _ bounds shortfalls starts k in
+            rw (k .number, k .place, k .tries, w .0 ∙ ap (λ (x : List ℕ). length x) r, w .1 ∙ ap (sets area 0) r)
+            (told image request area after (answer t request (length area)) gets i)
 
-        -- What was written is the answer's record, and the image that of the new timetable.
+        -- The image of the new timetable, or every byte as it was.
         pub change-accepted : d .number ≡ ACCEPTED → (bytes : ℕ) (after area-after : List ℕ)
             → after ≡ imageOf (ofColumns (d .slot) (d .length) owners (d .base) periods (d .offsets) bounds shortfalls starts)
-            → (bytes ≡ length (recordOf (answer t request (length area)))) × (area-after ≡ written (answer t request (length area)) area)
+            → (bytes ≡ length (decidedRecord d owners periods)) × (area-after ≡ sets area 0 (decidedRecord d owners periods))
             → Changed image request area (d .number) (d .place) (d .tries) bytes after area-after
         change-accepted a bytes after area-after i w =
-            left bytes after area-after (w .0)
+            left bytes after area-after
             (i ∙ sym (ap imageOf (k .in-force (sym (k .number) ∙ a)))
             ∙ sym (after-accepted image request (length area) (ap (λ (x : Answer). x .number) gets ∙ sym (k .number) ∙ a)
             ∙ ap (λ (x : Answer). imageOf (x .timetable)) gets))
-            (w .1)
+            w
 
         pub change-refused : d .number ≢ ACCEPTED → (bytes : ℕ) (area-after : List ℕ)
-            → (bytes ≡ length (recordOf (answer t request (length area)))) × (area-after ≡ written (answer t request (length area)) area)
+            → (bytes ≡ length (decidedRecord d owners periods)) × (area-after ≡ sets area 0 (decidedRecord d owners periods))
             → Changed image request area (d .number) (d .place) (d .tries) bytes image area-after
         change-refused n bytes area-after w =
-            left bytes image area-after (w .0)
+            left bytes image area-after
             (sym (after-refused image request (length area) (λ z. n (k .number ∙ sym (ap (λ (x : Answer). x .number) gets) ∙ z))))
-            (w .1)
+            w

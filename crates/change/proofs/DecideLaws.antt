@@ -1,15 +1,17 @@
 -- What is decided over columns is the answer to the request, from the verdicts of the stages and from the end of the search. Assumes nothing.
+use borrow.Author.Tests.{eq-eqb, ne-eqb}
 use mathlib.Core.List.{List, []}
 use mathlib.Core.Logic.{_≢_}
 use mathlib.Core.Path.{_≡_, refl, sym, ap, _∙_}
 use lib.ListN.{length, replicate}
+use native.Mathlib.Decide.{ℕ-discrete}
 use native.Mathlib.Omega.{arith}
 use Prim.Native.Nat.{ℕ, _+_, _-_, _≤_, _<_}
 use Rattle.change.proofs.Answers.{accepted-owners, record-accepted, record-none}
 use Rattle.change.proofs.EnterLaws.{start-entered}
 use Rattle.change.proofs.Passing.{goes-into}
 use Rattle.change.specs.Change.{answer, numberOf, placeOf, timetableOf, startPlan, startsOf, answerOf, recordOf, refuse, shortfallsOf}
-use Rattle.change.specs.Columns.{Decides, Ends, Entered, HandsBack, Old, RecordFits, enteredFrom}
+use Rattle.change.specs.Columns.{Decides, Ends, Entered, HandsBack, Old, RecordFits, decidedRecord, enteredFrom}
 use Rattle.change.specs.declared.Answer.{Answer}
 use Rattle.change.specs.declared.Decided.{Decided}
 use Rattle.change.specs.Stages.{startEntries}
@@ -104,17 +106,28 @@ module _ (a : Answer) (d : Decided) (owners periods bounds shortfalls starts : L
 
 -- ---- its record
 
-module _ (a : Answer) (d : Decided) (owners periods bounds shortfalls starts : List ℕ) (h : Decides a d owners periods bounds shortfalls starts) where
-  -- The record of what was decided is the answer's,
-  pub record-decided : d .number ≡ ACCEPTED → recordOf a ≡ answerRecord (d .length) owners (fromColumns periods (d .offsets) [] [])
-  record-decided z =
-      record-accepted a (sym (h .number) ∙ z)
-      ∙ ap (λ (x : Timetable). answerRecord (x .length) (x .owners) (x .entries)) (h .in-force (sym (h .number) ∙ z))
-      ∙ answer-columns (d .length) owners periods (d .offsets) bounds shortfalls
+module _ (d : Decided) (owners periods : List ℕ) where
+  -- The record of an acceptance, and of a refusal.
+  pub decided-accepted : d .number ≡ ACCEPTED → answerRecord (d .length) owners (fromColumns periods (d .offsets) [] []) ≡ decidedRecord d owners periods
+  unfolding decidedRecord
+  decided-accepted z = rw (eq-eqb _ _ z)
 
-  -- and that of a refusal is none.
-  pub record-refused : d .number ≢ ACCEPTED → recordOf a ≡ []
-  record-refused n = record-none a (λ z. n (h .number ∙ z))
+  pub decided-refused : d .number ≢ ACCEPTED → [] ≡ decidedRecord d owners periods
+  unfolding decidedRecord
+  decided-refused n = rw (ne-eqb _ _ n)
+
+  -- It is the answer's.
+  pub record-decided : (a : Answer) (bounds shortfalls starts : List ℕ) → Decides a d owners periods bounds shortfalls starts → decidedRecord d owners periods ≡ recordOf a
+  record-decided a bounds shortfalls starts h = at (ℕ-discrete (d .number) ACCEPTED)
+    where
+      at : Dec (d .number ≡ ACCEPTED) → decidedRecord d owners periods ≡ recordOf a
+      at (yes z) =
+          sym
+          (record-accepted a (sym (h .number) ∙ z)
+          ∙ ap (λ (x : Timetable). answerRecord (x .length) (x .owners) (x .entries)) (h .in-force (sym (h .number) ∙ z))
+          ∙ answer-columns (d .length) owners periods (d .offsets) bounds shortfalls
+          ∙ decided-accepted z)
+      at (no n) = sym (decided-refused n) ∙ sym (record-none a (λ z. n (h .number ∙ z)))
 
 -- It goes into the area for which the request was decided.
 pub record-fits : (t : Timetable) (s : List ℕ) (area : ℕ) (d : Decided) (owners periods bounds shortfalls starts : List ℕ)

@@ -1,7 +1,8 @@
 -- Helpers of the contracts in src/columns.rt, src/before.rt and src/answering.rt: what a sound timetable hands to a change, and what the change hands back, in columns.
+use lib.Dec.{eqb}
 use lib.ListN.{length, replicate}
-use mathlib.Core.Bool.{true}
-use mathlib.Core.List.{List}
+use mathlib.Core.Bool.{true, cond}
+use mathlib.Core.List.{List, []}
 use mathlib.Core.Logic.{_≢_}
 use mathlib.Core.Path.{_≡_}
 use Prim.Native.Nat.{ℕ, _+_, _≤_}
@@ -10,12 +11,13 @@ use Rattle.change.specs.declared.Answer.{Answer}
 use Rattle.change.specs.declared.Decided.{Decided}
 use Rattle.change.specs.Stages.{entering}
 use Rattle.numbers.specs.Numbers.{ACCEPTED}
+use Rattle.records.specs.Answer.{answerRecord}
 use Rattle.records.specs.declared.Ask.{Ask}
 use Rattle.records.specs.Request.{askOf}
 use Rattle.slots.specs.Clocks.{coreSlot}
 use Rattle.slots.specs.declared.CoreSlot.{CoreSlot}
 use Rattle.slots.specs.Limits.{AREA, IDS, LAST-SLOT, LONGEST}
-use Rattle.timetable.specs.Columns.{ofColumns, unplaced}
+use Rattle.timetable.specs.Columns.{fromColumns, ofColumns, unplaced}
 use Rattle.timetable.specs.declared.Entry.{Entry}
 use Rattle.timetable.specs.declared.Timetable.{Timetable}
 use Rattle.timetable.specs.Sound.{isSound}
@@ -52,7 +54,11 @@ pub record Decides (a : Answer) (d : Decided) (owners periods bounds shortfalls 
   pub tries : d .tries ≡ a .tries
   pub in-force : a .number ≡ ACCEPTED → a .timetable ≡ ofColumns (d .slot) (d .length) owners (d .base) periods (d .offsets) bounds shortfalls starts
 
--- The record of what was decided, with these owners, goes into an area of a size.
+-- The record of what was decided, with these owners and periods; a refusal has none.
+unfoldable pub decidedRecord : Decided → List ℕ → List ℕ → List ℕ
+decidedRecord d owners periods = cond (eqb (d .number) ACCEPTED) (answerRecord (d .length) owners (fromColumns periods (d .offsets) [] [])) []
+
+-- It goes into an area of a size.
 abbrev pub RecordFits : Decided → List ℕ → ℕ → Type 0
 RecordFits d owners area = d .number ≡ ACCEPTED → (AREA ≤ area) × (d .length ≤ LONGEST) × (length owners ≡ LONGEST)
 

@@ -1,11 +1,9 @@
 // The change of a sound timetable by a request, over columns of numbers that are lent, and its record: what is known to be sound is not tested again, and no timetable is copied.
 ghost use lib.ListN.{length, replicate};
-ghost use mathlib.Core.List.{List};
+ghost use lib.Seq.{sets};
 ghost use mathlib.Core.Path.{_≡_};
-ghost use Prim.Native.Nat.{ℕ};
-ghost use Rattle.change.specs.Change.{answer, recordOf, written};
-ghost use Rattle.change.specs.Columns.{Decides, Ends, FoundIn, Old, RecordFits, SoundWith};
-ghost use Rattle.change.specs.declared.Answer.{Answer};
+ghost use Rattle.change.specs.Change.{answer};
+ghost use Rattle.change.specs.Columns.{Decides, Ends, FoundIn, Old, RecordFits, SoundWith, decidedRecord};
 ghost use Rattle.slots.specs.Limits.{IDS, LONGEST};
 ghost use Rattle.timetable.specs.Columns.{fromColumns};
 ghost use Rattle.timetable.specs.declared.Timetable.{Timetable};
@@ -72,7 +70,7 @@ pub fn write(
     area: &mut [u8],
 ) -> usize
     requires { ⌜ RecordFits d (now owners) (length (now area)) ⌝ }
-    ensures { λ r. ⌜ ((a : Answer) (bounds shortfalls starts : List ℕ) → Decides a d (now (owners .entry)) (now (periods .entry)) bounds shortfalls starts → (r ≡ length (recordOf a)) × (now (area .exit) ≡ written a (now (area .entry)))) ⌝ }
+    ensures { λ r. ⌜ (r ≡ length (decidedRecord d (now (owners .entry)) (now (periods .entry)))) × (now (area .exit) ≡ sets (now (area .entry)) 0 (decidedRecord d (now (owners .entry)) (now (periods .entry)))) ⌝ }
 {
     if d.number != Refusal::ACCEPTED {
         return 0;

@@ -2,11 +2,13 @@
 use borrow.Author.Needs.{needs}
 use denote.Ref.{now}
 use lib.ListN.{length}
+use lib.Seq.{sets}
+use mathlib.Core.List.{List}
 use mathlib.Core.Path.{refl, sym, ap, _∙_}
-use Rattle.change.proofs.DecideLaws.{record-fits}
+use Prim.Native.Nat.{ℕ}
+use Rattle.change.proofs.DecideLaws.{record-decided, record-fits}
 use Rattle.change.proofs.Passing.{hands-back}
 use Rattle.change.specs.Change.{areaAfter, outcome, outcomeOf, recordOf}
-use Rattle.change.specs.declared.Answer.{Answer}
 use Rattle.change.proofs.change_sound.Statement.{statement}
 use Rattle.change.proofs.change_sound.Tie as tie
 
@@ -33,9 +35,11 @@ returns c =
     let d = w .before .before .before .before in
     let a = d .before .before .before .before .before .before .before .before .args in
     let k = d .decide-columns .ensures in
-    let r = w .write .ensures _ _ _ _ k in
-    let g = f .in-force .ensures _ (hands-back (a .t) (now (a .request)) (length (now (a .area)))) k in
-    (c .with-written .ensures (r .0 ∙ sym (ap (λ (x : Answer). length (recordOf x)) g)) ∙ ap outcomeOf g, r .1)
+    let r = record-decided _ _ _ _ _ _ _ k in
+    let g = f .in-force .ensures _ (hands-back (a .t) (now (a .request)) (length (now (a .area)))) k in (
+      c .with-written .ensures (w .write .ensures .0 ∙ ap (λ (x : List ℕ). length x) (r ∙ sym (ap recordOf g))) ∙ ap outcomeOf g,
+      w .write .ensures .1 ∙ ap (sets (now (a .area)) 0) r,
+    )
 
 pub change-sound-spec : {M : Type 1} → statement M
 change-sound-spec =

@@ -36,7 +36,7 @@ returns c =
     let d = w .before .before .before .before in
     let s = d .before .before .before .before .before .before .before .before .before in
     let k = d .decide .ensures _ (s .pre .1) in
-    change-accepted (s .args .image .now) (s .pre .0) _ refl (s .args .request .now) (s .args .area .now) _ _ _ _ _ _ k (i .if1 .taken) _ _ _ (p .put-image .ensures) (w .write .ensures _ _ _ _ k)
+    change-accepted (s .args .image .now) (s .pre .0) _ refl (s .args .request .now) (s .args .area .now) _ _ _ _ _ _ k (i .if1 .taken) _ _ _ (p .put-image .ensures) (w .write .ensures)
 
 same-length-3 : tie.Need-same-length-3
 same-length-3 c = search needs
@@ -47,7 +47,7 @@ returns-2 c =
     let d = w .before .before .before .before in
     let s = d .before .before .before .before .before .before .before .before .before in
     let k = d .decide .ensures _ (s .pre .1) in
-    change-refused (s .args .image .now) (s .pre .0) _ refl (s .args .request .now) (s .args .area .now) _ _ _ _ _ _ k (c .if1 .left) _ _ (w .write .ensures _ _ _ _ k)
+    change-refused (s .args .image .now) (s .pre .0) _ refl (s .args .request .now) (s .args .area .now) _ _ _ _ _ _ k (c .if1 .left) _ _ (w .write .ensures)
 
 pub change-sound-spec : {M : Type 1} → statement M
 change-sound-spec =
