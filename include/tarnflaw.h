@@ -258,9 +258,9 @@
  *     instructions    those of the first x86-64 processors, and tzcnt (objdump -d). Processors without BMI1 run tzcnt as bsf, which gives the same
  *                     here: its operand, a period, or one with a bit set above it, is never 0 where it is reached, and the flags that it sets are
  *                     not read
- *     SSE             xmm0 to xmm15, to move, clear, compare, add, subtract, shift, mask, pack and unpack whole numbers, in most functions or in what
+ *     SSE             xmm0 to xmm13, to move, clear, compare, add, subtract, shift, mask, pack and unpack whole numbers, in most functions or in what
  *                     they call; no floating point arithmetic, and no x87, MMX or AVX register (objdump -d). Your memcpy and memset may use more
- *     red zone        timetable::soundness::are_sound, board::image::starts_of keep figures in the 124 bytes below the stack pointer (objdump -d): a
+ *     red zone        timetable::soundness::are_sound, board::image::starts_of keep figures in the 120 bytes below the stack pointer (objdump -d): a
  *                     change and both queries call them
  *
  * So SSE has to be enabled. Every caller, as the ABI has it, calls with the stack pointer at a multiple of 16: the code moves 16 bytes at a time to
@@ -270,15 +270,12 @@
  *
  * What it takes
  *
- * Measured, not proved, and the worst that was found, not a bound. Stack, with that of memcpy and memset (bench/count): of a change 1,587 bytes, of an
- * owner query 1,859, of a standing query 2,035; that of the other functions was not measured. Times on x86-64 are of version 4. A change took 95 to 103
- * microseconds on a quiet machine, 142 where other work disturbed it; a query 0.5 (docs/BENCHMARKS.md has the machine and the inputs). A later build was
- * timed on a slower machine with an unsteady clock: the worst changes of three runs took 169, 201 and 117 microseconds there (docs/landings/ground.md).
- * Reading an answer took 0.2 microseconds at the worst, and writing a request 0.1. Since version 5 every call tests more. Made for an Arm machine and timed
- * there, the worst change took 77 microseconds before and after, and the median one of (a) 0.8 and 1.0; the worst query took 0.4 and 0.8, the most after a
- * long transition (docs/landings/CR-04.md). Later builds of version 6: with marks of one bit a slot the worst change took 42 microseconds there, the
- * median one 0.9, the worst query 0.8 (docs/landings/CR-06.md); with figures that are lent and not copied 22, 0.6 and 0.7
- * (docs/landings/speed.md). Measure on your board. */
+ * Measured, not proved, and the worst that was found, not a bound. Stack, with that of memcpy and memset (bench/count): of a change 1,575 bytes, of an
+ * owner query 791, of a standing query 807; that of the other functions was not measured. Times of this build on an x86-64 machine (docs/BENCHMARKS.md has
+ * it, and the inputs): a change took 0.4 microseconds at the median of (a), and 19 at the worst; a query 0.4 at the worst, and reading an answer and
+ * writing a request 0.1. Earlier builds took longer. Up to version 4 the worst change took 95 to 103 microseconds on a quiet x86-64 machine, 142 where other
+ * work disturbed it, and 201 on a slower one with an unsteady clock (docs/landings/ground.md); made for an Arm machine and timed there, 77 up to the first
+ * builds of version 6 (docs/landings/CR-04.md), and 42 with slots marked in bits (docs/landings/CR-06.md). Measure on your board. */
 #ifndef TARNFLAW_H
 #define TARNFLAW_H
 
