@@ -7,7 +7,7 @@ use slots::SliceCount;
 pub mod columns; // columns.rt: the entries as columns of numbers
 mod figures; // figures.rt: the figures of one entry
 mod soundness; // soundness.rt: whether a timetable is sound
-mod serving; // serving.rt: whom it lists, whom a slot serves, and each id's shortfall and slices at a slot
+mod serving; // serving.rt: whom a slot serves, and each id's shortfall and slices at a slot
 
 pub use figures::over_slot;
 pub use figures::weight_of;

@@ -1,4 +1,4 @@
-// Whom a timetable lists, whom a slot serves, and an id's shortfall and slices there. Nothing here is refused: a slot before the request slot is the caller's to refuse.
+// Whom a slot serves, and an id's shortfall and slices there, by a sound timetable whose entries stand in columns. Nothing here is refused: a slot before the request slot is the caller's to refuse.
 ghost use lib.Dec.{eqb};
 ghost use lib.ListN.{getD};
 ghost use mathlib.Core.Bool.{true};
