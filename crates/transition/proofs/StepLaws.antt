@@ -12,7 +12,7 @@ use mathlib.Core.Path.{_≡_, refl, sym, ap, ap₂, _∙_, subst}
 use native.Mathlib.Decide.{ℕ-discrete, decLt}
 use native.Mathlib.Numerals.{add-one}
 use native.Mathlib.Omega.{arith}
-use Prim.Native.Nat.{ℕ, zero, suc, _+_, _*_, _/_, _^_, _≤_, _<_}
+use Prim.Native.Nat.{ℕ, zero, suc, _+_, _*_, _≤_, _<_}
 use Rattle.placement.proofs.Sorting.{row-at}
 use Rattle.placement.specs.Any.{Lists}
 use Rattle.slots.proofs.Below.{and-both, count-first, count-most, count-rises, decided}
@@ -20,13 +20,13 @@ use Rattle.slots.specs.Below.{count}
 use Rattle.slots.specs.Limits.{IDS, WHOLE, LARGEST-BOUND}
 use Rattle.slots.specs.Shortfall.{overSlot, roomOf, weightOf}
 use Rattle.timetable.proofs.ColumnLaws.{columns-are, columns-at, length-columns}
-use Rattle.timetable.proofs.EntryLaws.{room-below, weight-le, weight-none, weight-shift}
-use Rattle.timetable.proofs.Ranges.{in-range-from, period-from, period-is, period-zeros}
+use Rattle.timetable.proofs.EntryLaws.{room-below, weight-le}
+use Rattle.timetable.proofs.Ranges.{in-range-from, period-is}
 use Rattle.timetable.proofs.Sound.{Ranged, ranged-from}
 use Rattle.timetable.proofs.SoundLaws.{entry-range}
 use Rattle.timetable.specs.Columns.{unplaced}
 use Rattle.timetable.specs.declared.Entry.{Entry}
-use Rattle.timetable.specs.Sound.{entriesInRange, entryInRange, isPeriod}
+use Rattle.timetable.specs.Sound.{entriesInRange, entryInRange}
 use Rattle.timetable.specs.Timetable.{entryOf, isListed, room}
 use Rattle.transition.proofs.Plans.{length-over, over-at}
 use Rattle.transition.proofs.UrgentRule.{Told, told, missed, unmissed}
