@@ -274,8 +274,8 @@
  * owner query 791, of a standing query 807; that of the other functions was not measured. Times of this build on an x86-64 machine (docs/BENCHMARKS.md has
  * it, and the inputs): a change took 0.4 microseconds at the median of (a), and 19 at the worst; a query 0.4 at the worst, and reading an answer and
  * writing a request 0.1. Earlier builds took longer. Up to version 4 the worst change took 95 to 103 microseconds on a quiet x86-64 machine, 142 where other
- * work disturbed it, and 201 on a slower one with an unsteady clock (docs/landings/ground.md); made for an Arm machine and timed there, 77 up to the first
- * builds of version 6 (docs/landings/CR-04.md), and 42 with slots marked in bits (docs/landings/CR-06.md). Measure on your board. */
+ * work disturbed it, and 201 on a slower one with an unsteady clock (docs/landings/ground.md); made for an Arm machine and timed there, 77 with versions 4
+ * and 5 (docs/landings/CR-04.md), and 42 once slots were marked in bits (docs/landings/CR-06.md). Measure on your board. */
 #ifndef TARNFLAW_H
 #define TARNFLAW_H
 
