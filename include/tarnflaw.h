@@ -30,7 +30,8 @@
  * not for bytes that were changed elsewhere. See "Stored images".
  *
  * No pointer may be null, also where its size is 0, and none may lead into what another one points to. Nothing is kept after the call,
- * and nothing is allocated. examples/board.c is a whole program; examples/header.c tries what is said here.
+ * and nothing is allocated. examples/board.c is a whole program; examples/header.c tries what is said here. include/tarnflaw.rs has the same functions for a
+ * Rust program, over slices.
  *
  * Requests and answers
  *
