@@ -11,6 +11,7 @@ use crate::desk;
 use crate::figures::{aligned, code, in_turn, list, list_and, thousands, Figures};
 use crate::frames::{frame, LONGEST_FRAME, TAG_FRAME};
 use crate::numbers;
+use crate::pictures::begun_anew;
 use crate::probe::{image_of, IMAGE};
 use crate::queries::{owner_query, standing_query};
 use crate::records::{
@@ -360,6 +361,15 @@ fn add_listing(figures: &mut Figures) {
     figures.phrase(section, format!("a shortfall above {weights}"));
     figures.phrase(section, format!("by at most {CYCLE} for each"));
     figures.cell(section, "debt", format!("{out}: {owed} at {absent}"));
+    let b = run_b().present();
+    let begun = (b.request_slot..=b.base).map(|slot| {
+        let anew = begun_anew(&run_b(), PUMP_LOOP, slot);
+        let owed = run_b().shortfall(PUMP_LOOP, slot);
+        format!("at slot {slot}: {anew}, where the shortfall is {owed}")
+    });
+    let begun: Vec<String> = begun.collect();
+    figures.phrase(section, "begun at 0 at the request slot");
+    figures.cell(section, "counted anew", format!("B, id {PUMP_LOOP}: {}", begun.join("; ")));
 }
 
 /// "Words": placements, lengths, the answer area and soundness.

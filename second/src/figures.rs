@@ -35,7 +35,7 @@ pub struct Figures {
 }
 
 impl Figures {
-    /// The figures of README.md, docs/DICTIONARY.md and docs/WORKED.md.
+    /// The figures of docs/DICTIONARY.md and docs/WORKED.md.
     pub fn of_documents() -> Figures {
         let mut figures = Figures::default();
         dictionary::add_to(&mut figures);

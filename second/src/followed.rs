@@ -1,11 +1,10 @@
-//! The figures of docs/WORKED.md and of README.md: cases A and B, from their bytes to their lines.
+//! The figures of docs/WORKED.md: cases A and B, from their bytes to their lines.
 
 use crate::archive::read_answer;
 use crate::cases::request_a;
 use crate::change::AREA;
-use crate::figures::{code, hexadecimal, list, list_and, thousands, Figures};
-use crate::frames::{frame, LONGEST_FRAME};
-use crate::numbers::ACCEPTED;
+use crate::figures::{code, hexadecimal, list, list_and, Figures};
+use crate::frames::frame;
 use crate::records::{longest_field, slot_field, HEAD};
 use crate::screen::{kept, standing};
 use crate::slots::room;
@@ -27,7 +26,6 @@ pub fn add_to(figures: &mut Figures) {
     add_search(figures);
     add_answer(figures);
     add_told(figures);
-    add_readme(figures);
 }
 
 /// The lines that cases A and B are answered with.
@@ -150,13 +148,4 @@ fn add_told(figures: &mut Figures) {
     let stands: Vec<String> = stands.collect();
     let row = "the service screen asks how an id stands, in the transition too";
     figures.cell(section, row, format!("id {DETECTOR}, {}", stands.join("; ")));
-}
-
-/// README.md: what stands around the lines of cases A and B.
-fn add_readme(figures: &mut Figures) {
-    let section = "Two commands";
-    figures.phrase(section, format!("its number ({ACCEPTED}: accepted)"));
-    figures.phrase(section, format!("a length above {}", thousands(LONGEST_FRAME)));
-    figures.phrase(section, format!("a number other than {ACCEPTED}"));
-    figures.phrase(section, "`N passed, 0 failed`");
 }

@@ -1,7 +1,9 @@
 //! The program and the probe: frames are read from the input, and a line is printed for each.
 
 use crate::change::{change, AREA};
+use crate::pictures::{request_lines, Around};
 use crate::probe::probe_line;
+use crate::run::Run;
 use crate::timetable::Timetable;
 use std::io::{self, BufRead, Read, Write};
 
@@ -26,6 +28,17 @@ pub fn print_lines(input: &mut impl BufRead, output: &mut impl Write) -> io::Res
 /// Each probe's line is printed; a bad frame says so and ends it.
 pub fn print_probes(input: &mut impl BufRead, output: &mut impl Write) -> io::Result<()> {
     print_each(input, output, |_, content| probe_line(content))
+}
+
+/// From the empty timetable, the figures of each change's picture are printed; a bad frame says so and
+/// ends it.
+pub fn print_pictures(
+    input: &mut impl BufRead,
+    output: &mut impl Write,
+    around: Around,
+) -> io::Result<()> {
+    let mut run = Run::empty();
+    print_each(input, output, |ordinal, request| request_lines(&mut run, ordinal, request, around))
 }
 
 /// The line of each frame's ordinal and content is printed; a bad frame says so and ends it.

@@ -21,6 +21,7 @@ pub mod frames;
 pub mod generate;
 pub mod numbers;
 pub mod offset_counts;
+pub mod pictures;
 pub mod probe;
 pub mod probes;
 pub mod queries;

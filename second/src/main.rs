@@ -1,7 +1,7 @@
 //! The second program's commands: `lines` answers request frames, `generate` makes them and
 //! `counts` counts the answers; `answers`, `probes` and `probe-counts` do so for probes, `archives` and
-//! `archive-counts` for those that read answers and write requests; `figures` holds documents against
-//! the figures of the cases.
+//! `archive-counts` for those that read answers and write requests; `pictures` works out what the
+//! command draws; `figures` holds documents against the figures of the cases.
 
 #![forbid(unsafe_code)]
 
@@ -11,8 +11,9 @@ use second_model::cases;
 use second_model::counts::{ProbeCounts, RequestCounts};
 use second_model::documents::{faults, Document};
 use second_model::figures::Figures;
-use second_model::frames::{frame, print_lines, print_probes};
+use second_model::frames::{frame, print_lines, print_pictures, print_probes};
 use second_model::generate::Generator;
+use second_model::pictures::Around;
 use second_model::probes::Probes;
 use std::io::{self, BufWriter, Write};
 use std::num::IntErrorKind;
@@ -28,6 +29,8 @@ second probes SEED COUNT          the cases, random probes, and transitions swep
 second probe-counts SEED COUNT    how often each answer comes in those probes
 second archives SEED COUNT        cases and random probes that read answers and write requests
 second archive-counts SEED COUNT  how often each answer comes in those probes
+second pictures BEFORE AFTER      frames from standard input, the figures of each change's picture: so
+                                  many slots before the request slot, and so many from the base on
 second figures                    the figures that the documents show, worked out
 second figures FILE..             whether the documents show them";
 
@@ -56,6 +59,10 @@ fn run(words: &[&str]) -> Result<io::Result<()>, String> {
         ["answers"] => Ok(answers()),
         ["figures"] => Ok(print_figures()),
         ["figures", ref files @ ..] => Ok(check_figures(files)),
+        ["pictures", before, after] => {
+            let (before, after) = (number("BEFORE", before)?, number("AFTER", after)?);
+            Ok(pictures(Around { before, after }))
+        }
         ["generate", seed, count] => Ok(generate(numbers(seed, count)?)),
         ["counts", seed, count] => Ok(counts(numbers(seed, count)?)),
         ["probes", seed, count] => Ok(probes(numbers(seed, count)?)),
@@ -92,6 +99,13 @@ fn lines() -> io::Result<()> {
 fn answers() -> io::Result<()> {
     let mut output = BufWriter::new(io::stdout().lock());
     print_probes(&mut io::stdin().lock(), &mut output)?;
+    output.flush()
+}
+
+/// The figures of the picture of each change that requests on standard input bring.
+fn pictures(around: Around) -> io::Result<()> {
+    let mut output = BufWriter::new(io::stdout().lock());
+    print_pictures(&mut io::stdin().lock(), &mut output, around)?;
     output.flush()
 }
 

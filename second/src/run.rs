@@ -34,6 +34,11 @@ impl Run {
         Run { accepted: [&self.accepted[..], &[timetable]].concat() }
     }
 
+    /// How many requests were accepted.
+    pub fn count(&self) -> usize {
+        self.accepted.len()
+    }
+
     /// The timetable that the next request meets.
     pub fn present(&self) -> Timetable {
         self.accepted.last().copied().unwrap_or(Timetable::empty())
