@@ -1,0 +1,162 @@
+//! What is drawn of a change: the slots around it, each as the queries tell it.
+
+use crate::image::Image;
+use tarnflaw::{ACCEPTED, IDLE, IDS, LAST_SLOT};
+
+/// How many slots are drawn before the request slot, and from the base on.
+#[derive(Clone, Copy)]
+pub struct Around {
+    pub before: u64,
+    pub after: u64,
+}
+
+/// The slots around a change.
+pub struct Picture {
+    pub ordinal: u64,
+    pub request_slot: u64,
+    pub base: u64,
+    pub slots: Vec<Slot>,
+    pub lanes: Vec<Lane>,
+}
+
+/// A slot, and who has it, if anybody does.
+#[derive(Clone, Copy, Debug, PartialEq, Eq)]
+pub struct Slot {
+    pub number: u64,
+    pub owner: Option<u8>,
+}
+
+/// A partition, and how it stands in each slot in which it is listed.
+pub struct Lane {
+    pub id: u8,
+    pub cells: Vec<Option<Cell>>,
+}
+
+/// How a partition stands at the start of a slot.
+#[derive(Clone, Copy, Debug, PartialEq, Eq)]
+pub struct Cell {
+    pub own: bool,
+    pub shortfall: u16,
+    pub slices: u64,
+    pub bound: u8,
+    /// Its shortfall if the count had begun anew at the request slot: from there on, and where it is another figure.
+    pub anew: Option<u16>,
+}
+
+impl Cell {
+    /// What the shortfall has to stay below.
+    pub fn limit(&self) -> u16 {
+        256 * u16::from(self.bound)
+    }
+}
+
+impl Lane {
+    /// The bounds R in their order, each once where it goes on; of more than two the first and the last.
+    pub fn bounds(&self) -> Vec<u8> {
+        let mut bounds: Vec<u8> = self.cells.iter().flatten().map(|cell| cell.bound).collect();
+        bounds.dedup();
+        if bounds.len() > 2 {
+            bounds.drain(1..bounds.len() - 1);
+        }
+        bounds
+    }
+
+    /// What the bounds say.
+    pub fn below(&self) -> String {
+        let bounds = self.bounds();
+        let told = |figures: Vec<String>| figures.join(", ");
+        let below = bounds.iter().map(|&bound| (256 * u16::from(bound)).to_string()).collect();
+        format!("R {}: below {}", told(bounds.iter().map(u8::to_string).collect()), told(below))
+    }
+
+    /// The largest figure that a shortfall of the lane has to stay below.
+    pub fn limit(&self) -> u16 {
+        self.cells.iter().flatten().map(Cell::limit).max().unwrap_or(256)
+    }
+}
+
+impl Picture {
+    /// The transition length.
+    pub fn length(&self) -> u64 {
+        self.base - self.request_slot
+    }
+
+    /// The head of the picture.
+    pub fn title(&self) -> String {
+        let (ordinal, slot, length) = (self.ordinal, self.request_slot, self.length());
+        format!("request {ordinal} accepted: slot {slot}, length {length}, base {}", self.base)
+    }
+
+    /// The partitions that come into the change with a shortfall: id and figure.
+    pub fn brought(&self) -> Vec<(u8, u16)> {
+        let at = self.slots.iter().position(|slot| slot.number == self.request_slot);
+        let brought = |lane: &Lane| {
+            let cell = lane.cells[at?]?;
+            cell.anew.map(|_| (lane.id, cell.shortfall))
+        };
+        self.lanes.iter().filter_map(brought).collect()
+    }
+}
+
+/// The timetables that were accepted, the last one last, as far back as pictures look.
+pub struct History {
+    images: Vec<Image>,
+    around: Around,
+}
+
+impl History {
+    /// A controller's history that begins with the empty timetable.
+    pub fn empty(around: Around) -> History {
+        History { images: vec![Image::empty()], around }
+    }
+
+    /// The picture of a change that was accepted as the ordinal's request; it is the last of the history from now on.
+    pub fn accept(&mut self, ordinal: u64, image: &Image) -> Picture {
+        let first = image.request_slot().saturating_sub(self.around.before);
+        let needed = self.images.iter().rposition(|old| old.request_slot() <= first).unwrap_or(0);
+        self.images.drain(..needed);
+        self.images.push(image.clone());
+        let last = image.base().saturating_add(self.around.after).min(LAST_SLOT + 1);
+        self.picture(ordinal, image, first..last)
+    }
+
+    /// The timetable in force in a slot: the last accepted of those whose request slot it is, or lies behind.
+    fn in_force(&self, slot: u64) -> &Image {
+        let up_to = self.images.iter().rfind(|image| image.request_slot() <= slot);
+        up_to.unwrap_or(&self.images[0])
+    }
+
+    /// The picture of some slots around a change.
+    fn picture(&self, ordinal: u64, image: &Image, slots: std::ops::Range<u64>) -> Picture {
+        let owner = |slot| match tarnflaw::owner(&self.in_force(slot).0, slot) {
+            told if told.number != ACCEPTED || told.owner == IDLE => None,
+            told => Some(told.owner),
+        };
+        let slots: Vec<Slot> = slots.map(|number| Slot { number, owner: owner(number) }).collect();
+        let anew = image.counted_anew();
+        let lanes = (0..IDS).map(|id| Lane {
+            id,
+            cells: slots.iter().map(|&slot| self.cell(id, slot, image, &anew)).collect(),
+        });
+        let lanes = lanes.filter(|lane| lane.cells.iter().any(Option::is_some)).collect();
+        Picture { ordinal, request_slot: image.request_slot(), base: image.base(), slots, lanes }
+    }
+
+    /// How a partition stands in a slot, if it is listed there.
+    fn cell(&self, id: u8, slot: Slot, image: &Image, anew: &Image) -> Option<Cell> {
+        let in_force = self.in_force(slot.number);
+        let told = tarnflaw::standing(&in_force.0, id, slot.number);
+        if told.number != ACCEPTED {
+            return None;
+        }
+        let counted = tarnflaw::standing(&anew.0, id, slot.number);
+        let differs = counted.number == ACCEPTED && counted.shortfall != told.shortfall;
+        Some(Cell {
+            own: slot.owner == Some(id),
+            shortfall: told.shortfall,
+            slices: told.slices,
+            bound: in_force.bound(id),
+            anew: (slot.number >= image.request_slot() && differs).then_some(counted.shortfall),
+        })
+    }
+}

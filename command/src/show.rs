@@ -1,0 +1,139 @@
+//! `tarnflaw show`: the slots around each change as a picture, in the terminal or as an SVG file.
+
+use crate::arguments::Arguments;
+use crate::controller::Controller;
+use crate::output::write_file;
+use crate::picture::{Around, History, Picture};
+use crate::progress::Progress;
+use crate::requests::{Put, Requests};
+use crate::run::sentence;
+use crate::stop::{wrong, Ended, Stop, Verdict};
+use crate::svg::Svg;
+use crate::terminal::Terminal;
+use std::collections::BTreeMap;
+use std::io::{self, BufWriter, IsTerminal, Write};
+use tarnflaw::{ACCEPTED, IDS};
+
+/// The options of the verb.
+pub const OPTIONS: &[&str] = &["--svg", "--only", "--before", "--after", "--columns", "--name"];
+
+/// What partitions are called, by id.
+pub type Names = BTreeMap<u8, String>;
+
+/// Where pictures go.
+enum Drawing {
+    Terminal(Terminal, BufWriter<io::StdoutLock<'static>>),
+    Svg(Svg, String),
+}
+
+impl Drawing {
+    /// Draws a change.
+    fn draw(&mut self, picture: &Picture) -> Result<(), Stop> {
+        match self {
+            Drawing::Terminal(terminal, output) => {
+                output.write_all(terminal.draw(picture).as_bytes())?
+            }
+            Drawing::Svg(svg, _) => svg.draw(picture),
+        }
+        Ok(())
+    }
+
+    /// Says that a request was refused.
+    fn say(&mut self, said: &str) -> Result<(), Stop> {
+        match self {
+            Drawing::Terminal(_, output) => writeln!(output, "{said}\n")?,
+            Drawing::Svg(svg, _) => svg.say(said),
+        }
+        Ok(())
+    }
+
+    /// Ends the drawing.
+    fn finish(self) -> Result<(), Stop> {
+        match self {
+            Drawing::Terminal(_, mut output) => Ok(output.flush()?),
+            Drawing::Svg(svg, file) => write_file(&file, svg.finish().as_bytes()),
+        }
+    }
+}
+
+/// `tarnflaw show [FILE]`
+pub fn verb(arguments: &Arguments) -> Ended {
+    let around = Around {
+        before: arguments.number("--before", 64, 6)?,
+        after: arguments.number("--after", 256, 8)?,
+    };
+    let only = only(arguments)?;
+    let mut drawing = drawing(arguments)?;
+    let mut requests = Requests::open(&arguments.file()?)?;
+    let mut progress = Progress::begin();
+    let mut controller = Controller::empty();
+    let mut history = History::empty(around);
+    let mut verdict = Verdict::Done;
+    let bad = loop {
+        let (request, at) = match requests.next()? {
+            Put::Request(request, at) => (request.to_vec(), at),
+            Put::End => break None,
+            Put::BadFrame(said) => break Some(said),
+        };
+        let told = controller.put(&request);
+        verdict = verdict.and(Verdict::of(told.number));
+        let ordinal = controller.ordinal;
+        let drawn = only.is_none_or(|only| only == ordinal);
+        if told.number == ACCEPTED {
+            let picture = history.accept(ordinal, &controller.image);
+            if drawn {
+                drawing.draw(&picture)?;
+            }
+        } else if drawn {
+            let why = sentence(&controller, &requests, &request, at, told);
+            drawing.say(&format!("request {ordinal}: {why}"))?;
+        }
+        progress.tell(ordinal);
+    };
+    if let Some(only) = only.filter(|&only| only > controller.ordinal && bad.is_none()) {
+        return arguments
+            .misused(&format!("--only {only}, and the input has {} requests", controller.ordinal));
+    }
+    drawing.finish()?;
+    bad.map_or(Ok(verdict), wrong)
+}
+
+/// The one request whose change is to be drawn, if one is named.
+fn only(arguments: &Arguments) -> Result<Option<u64>, Stop> {
+    match arguments.number("--only", u64::MAX, u64::MAX)? {
+        0 => arguments.misused("--only 0, and a request counted from 1 was expected"),
+        u64::MAX => Ok(None),
+        only => Ok(Some(only)),
+    }
+}
+
+/// Where the pictures are to go.
+fn drawing(arguments: &Arguments) -> Result<Drawing, Stop> {
+    let names = names(arguments)?;
+    if let Some(file) = arguments.value("--svg") {
+        return Ok(Drawing::Svg(Svg::new(names), file.to_string()));
+    }
+    let shell = std::env::var("COLUMNS").ok().and_then(|columns| columns.parse().ok());
+    let columns = arguments.number("--columns", 1000, shell.unwrap_or(80).clamp(40, 1000))?;
+    if columns < 40 {
+        return arguments.misused("--columns under 40, and 40 or more were expected");
+    }
+    let bold = io::stdout().is_terminal()
+        && std::env::var_os("NO_COLOR").map_or(true, |value| value.is_empty());
+    let output = BufWriter::new(io::stdout().lock());
+    Ok(Drawing::Terminal(Terminal { names, columns: columns as usize, bold }, output))
+}
+
+/// What partitions are called.
+fn names(arguments: &Arguments) -> Result<Names, Stop> {
+    let named = arguments.all("--name").map(|given| match given.split_once('=') {
+        Some((_, name)) if name.chars().any(char::is_control) => arguments
+            .misused("--name with a control character, and a name without one was expected"),
+        Some((id, name)) => {
+            let id = arguments.parsed("the id of --name", id, u64::from(IDS) - 1)?;
+            Ok((id as u8, name.to_string()))
+        }
+        None => arguments.misused(&format!("'{given}' for --name, and ID=NAME was expected")),
+    });
+    named.collect()
+}
