@@ -1,5 +1,6 @@
 //! The library and the plain port, side by side on the same inputs.
-//! bench SEED FRAMES CHANGER PORT: FRAMES is a file for the programs CHANGER and PORT.
+//! bench SEED FRAMES CHANGER PORT MILLION COMMAND: FRAMES is a file for the programs CHANGER and PORT,
+//! MILLION one for CHANGER and COMMAND.
 
 mod archive;
 mod compare;
@@ -25,8 +26,9 @@ use desk::Desk;
 use inputs::{listed_ids, Input};
 use port::number::{ACCEPTED, LENGTHS_EXHAUSTED};
 use port::{IDS, LONGEST};
-use rows::{Asked, Inputs};
-use table::Section;
+use program::Program;
+use rows::{Asked, Inputs, Programs};
+use table::{Section, LIBRARY_AND_PORT};
 
 /// The histories of the 2021 paper's workload.
 const HISTORIES: usize = 200;
@@ -47,11 +49,13 @@ struct Arguments {
     frames: String,
     changer: String,
     port: String,
+    million: String,
+    command: String,
 }
 
 /// Compares, then measures and prints all.
 fn main() -> Result<(), Box<dyn Error>> {
-    let arguments = arguments().ok_or("usage: bench SEED FRAMES CHANGER PORT")?;
+    let arguments = arguments().ok_or("usage: bench SEED FRAMES CHANGER PORT MILLION COMMAND")?;
     let inputs = all_inputs(arguments.seed);
     let asked = rows::asked(arguments.seed, &inputs);
     verify_worst(&inputs)?;
@@ -60,14 +64,20 @@ fn main() -> Result<(), Box<dyn Error>> {
         ("(b) found at 64", archive::archive(&inputs.found)),
     ];
     compare_calls(&arguments, &inputs, &asked, &archives)?;
-    let frames = compare_programs(&arguments)?;
-    let Arguments { changer, port, frames: file, .. } = &arguments;
+    let Arguments { changer, port, frames, million, command, .. } = &arguments;
+    let changer = || Program::plain(changer);
+    let mut programs = Programs { one: changer(), other: Program::plain(port), frames, count: 0 };
+    let command = Program { path: command, arguments: &["run"], ends: &[0, 1] };
+    let mut commands = Programs { one: command, other: changer(), frames: million, count: 0 };
+    compare_programs("Both programs", &mut programs)?;
+    compare_programs("Command and program", &mut commands)?;
     let sections = [
         rows::source(&inputs),
         rows::worst(&inputs),
         rows::query_section(&asked),
-        rows::programs(changer, port, file, frames)?,
+        programs.section("d", "The programs", LIBRARY_AND_PORT)?,
         rows::archives(&archives),
+        commands.section("f", "The command, `tarnflaw run`", ["command", "program"])?,
     ];
     sections.iter().for_each(Section::print);
     describe(&inputs.source);
@@ -76,11 +86,11 @@ fn main() -> Result<(), Box<dyn Error>> {
     Ok(())
 }
 
-/// The command line's four words, no more and no fewer.
+/// The command line's six words, no more and no fewer.
 fn arguments() -> Option<Arguments> {
     let words: Vec<String> = std::env::args().skip(1).collect();
-    let [seed, frames, changer, port] = <[String; 4]>::try_from(words).ok()?;
-    Some(Arguments { seed: seed.parse().ok()?, frames, changer, port })
+    let [seed, frames, changer, port, million, command] = <[String; 6]>::try_from(words).ok()?;
+    Some(Arguments { seed: seed.parse().ok()?, frames, changer, port, million, command })
 }
 
 /// The inputs of a seed.
@@ -139,15 +149,15 @@ fn compare_calls(
     Ok(())
 }
 
-/// Holds the lines of the programs against each other, and counts them.
-fn compare_programs(arguments: &Arguments) -> Result<usize, Box<dyn Error>> {
-    let changer = program::lines(&arguments.changer, &arguments.frames)?;
-    if changer != program::lines(&arguments.port, &arguments.frames)? {
-        return Err("the lines of the programs differ".into());
+/// Holds the lines of two programs against each other, and counts them.
+fn compare_programs(name: &str, programs: &mut Programs) -> Result<(), Box<dyn Error>> {
+    let lines = programs.one.lines(programs.frames)?;
+    if lines != programs.other.lines(programs.frames)? {
+        return Err(format!("{name}: the lines differ").into());
     }
-    let lines = changer.iter().filter(|&&byte| byte == b'\n').count();
-    println!("Both programs print the same {lines} lines.");
-    Ok(lines)
+    programs.count = lines.iter().filter(|&&byte| byte == b'\n').count();
+    println!("{name} print the same {} lines.", programs.count);
+    Ok(())
 }
 
 /// Prints how the requests of the workload end.
@@ -174,7 +184,7 @@ fn print_stack(inputs: &Inputs) -> usize {
 }
 
 /// Prints which goals are met.
-fn print_goals(sections: &[Section; 5], stack: usize) {
+fn print_goals(sections: &[Section; 6], stack: usize) {
     let [source, worst, ..] = sections;
     let all = source.rows[0].library();
     table::goals_head();

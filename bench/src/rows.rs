@@ -7,9 +7,9 @@ use port::IDS;
 use crate::archive::Archive;
 use crate::desk::{self, Desk};
 use crate::inputs::{Input, Query};
-use crate::program;
+use crate::program::{self, Program};
 use crate::queries::{met_without_transition, queries, timetables, Where};
-use crate::table::{Row, Section};
+use crate::table::{Row, Section, LIBRARY_AND_PORT};
 use crate::timing::{self, Effort, Times};
 
 /// The queries of a row.
@@ -47,7 +47,7 @@ pub fn source(inputs: &Inputs) -> Section {
         changes("those with 2 tries or more", &with_tries(all, 2), SOURCE_EFFORT),
         passes("all in turn, none repeated, mean of a request", all),
     ];
-    Section { letter: "a", title: "The 2021 paper's workload", rows }
+    Section { letter: "a", title: "The 2021 paper's workload", beside: LIBRARY_AND_PORT, rows }
 }
 
 /// The inputs with so many tries or more.
@@ -61,7 +61,12 @@ pub fn worst(inputs: &Inputs) -> Section {
         changes("in vain (refused 11)", &inputs.exhausted, WORST_EFFORT),
         changes("found at 64", &inputs.found, WORST_EFFORT),
     ];
-    Section { letter: "b", title: "The worst case: 32 partitions, T 64, tries 65", rows }
+    Section {
+        letter: "b",
+        title: "The worst case: 32 partitions, T 64, tries 65",
+        beside: LIBRARY_AND_PORT,
+        rows,
+    }
 }
 
 /// A row of changes, each repeated.
@@ -111,7 +116,7 @@ pub fn query_section(asked: &[Asked]) -> Section {
             timing::each(queries, QUERY_EFFORT, desk::library_standing, desk::port_standing);
         rows.push(Row { name: format!("standing, {name}"), counted: "inputs", times });
     }
-    Section { letter: "c", title: "Queries", rows }
+    Section { letter: "c", title: "Queries", beside: LIBRARY_AND_PORT, rows }
 }
 
 /// Reading the answers and writing the requests of some archives, each with its name.
@@ -125,15 +130,36 @@ pub fn archives(archives: &[(&str, Archive)]) -> Section {
         let times = timing::each(figures, QUERY_EFFORT, desk::library_writing, desk::port_writing);
         rows.push(Row { name: format!("writing a request, {name}"), counted: "inputs", times });
     }
-    Section { letter: "e", title: "Archived answers, and requests from figures", rows }
+    Section {
+        letter: "e",
+        title: "Archived answers, and requests from figures",
+        beside: LIBRARY_AND_PORT,
+        rows,
+    }
 }
 
-/// The programs, each run's time shared out over its frames.
-pub fn programs(changer: &str, port: &str, frames: &str, count: usize) -> io::Result<Section> {
-    let Times { library, port } = program::times(changer, port, frames, RUNS)?;
-    let shared = |times: Vec<f64>| times.into_iter().map(|time| time / count as f64).collect();
-    let times = Times { library: shared(library), port: shared(port) };
-    let name = format!("whole process on {count} frames, time of a frame");
-    let rows = vec![Row { name, counted: "runs", times }];
-    Ok(Section { letter: "d", title: "The programs", rows })
+/// Two programs on so many frames.
+pub struct Programs<'a> {
+    pub one: Program<'a>,
+    pub other: Program<'a>,
+    pub frames: &'a str,
+    pub count: usize,
+}
+
+impl Programs<'_> {
+    /// The programs, each run's time shared out over its frames.
+    pub fn section(
+        &self,
+        letter: &'static str,
+        title: &'static str,
+        beside: [&'static str; 2],
+    ) -> io::Result<Section> {
+        let Times { library, port } = program::times(&self.one, &self.other, self.frames, RUNS)?;
+        let count = self.count as f64;
+        let shared = |times: Vec<f64>| times.into_iter().map(|time| time / count).collect();
+        let times = Times { library: shared(library), port: shared(port) };
+        let name = format!("whole process on {count} frames, time of a frame");
+        let rows = vec![Row { name, counted: "runs", times }];
+        Ok(Section { letter, title, beside, rows })
+    }
 }

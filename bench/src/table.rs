@@ -6,6 +6,10 @@ use crate::timing::Times;
 const RATIO: f64 = 1.0;
 /// The same of the programs: the library's tests no timetable that it knows to be sound.
 const PROGRAM_RATIO: f64 = 0.8;
+/// The same of the command beside the program.
+const COMMAND_RATIO: f64 = 2.0;
+/// What stands side by side in most sections.
+pub const LIBRARY_AND_PORT: [&str; 2] = ["library", "port"];
 
 /// One row: what was measured, in what (inputs, passes or runs), and its times.
 pub struct Row {
@@ -18,6 +22,8 @@ pub struct Row {
 pub struct Section {
     pub letter: &'static str,
     pub title: &'static str,
+    /// What stands side by side.
+    pub beside: [&'static str; 2],
     pub rows: Vec<Row>,
 }
 
@@ -62,11 +68,12 @@ impl Row {
 }
 
 impl Section {
-    /// Prints the table; times are in microseconds, ratios library to port.
+    /// Prints the table; times are in microseconds, ratios of the first to the second.
     pub fn print(&self) {
+        let [one, other] = self.beside;
         println!("\n### ({}) {}\n", self.letter, self.title);
-        print!("| | measured | median, library | median, port | ratio ");
-        println!("| worst, library | worst, port | ratio |");
+        print!("| | measured | median, {one} | median, {other} | ratio ");
+        println!("| worst, {one} | worst, {other} | ratio |");
         println!("|---|---|---|---|---|---|---|---|");
         self.rows.iter().for_each(Row::print);
     }
@@ -83,10 +90,14 @@ pub fn goal(name: &str, figure: f64, most: f64) {
     println!("| {name} | {most} | {figure:.2} | {verdict} |");
 }
 
-/// Prints for each row whether the library is as fast beside the port as it is to be.
+/// Prints for each row whether the first is as fast beside the second as it is to be.
 pub fn ratio_goals(sections: &[Section]) {
     for section in sections {
-        let most = if section.letter == "d" { PROGRAM_RATIO } else { RATIO };
+        let most = match section.letter {
+            "d" => PROGRAM_RATIO,
+            "f" => COMMAND_RATIO,
+            _ => RATIO,
+        };
         for row in &section.rows {
             let name = format!("ratio of medians, ({}) {}", section.letter, row.name);
             goal(&name, row.ratio(), most);
