@@ -31,6 +31,7 @@ mod text;
 mod words;
 
 use crate::arguments::{Arguments, Takes};
+use crate::source::{Source, FRAME_TAG};
 use crate::stop::{wrong, Ended, Stop, Verdict};
 use std::ffi::OsString;
 use std::process::ExitCode;
@@ -125,8 +126,11 @@ fn version() -> Ended {
 
 /// `tarnflaw encode`.
 fn encode(arguments: &Arguments) -> Ended {
-    let source = source::Source::open(&arguments.file()?)?;
+    let source = Source::open(&arguments.file()?)?;
     let name = source.name.clone();
+    if source.first() == Some(FRAME_TAG) {
+        return wrong(format!("{name}:1:1: frames, and a text was expected"));
+    }
     match text::encode(&source.whole()?) {
         Ok(encoded) => output::print_bytes(&encoded.frames).map(|()| Verdict::Done),
         Err(fault) => wrong(fault.told(&name)),
@@ -135,6 +139,10 @@ fn encode(arguments: &Arguments) -> Ended {
 
 /// `tarnflaw decode`.
 fn decode(arguments: &Arguments) -> Ended {
-    let bytes = source::Source::open(&arguments.file()?)?.whole()?;
-    told(&decode::decode(&bytes))
+    let source = Source::open(&arguments.file()?)?;
+    if let Some(first) = source.first().filter(|&byte| byte != FRAME_TAG) {
+        let said = "and the tag of a frame, 40, was expected: all of it is told as a rest";
+        output::complain(&format!("{}: byte 0: byte {first:02x}, {said}", source.name));
+    }
+    told(&decode::decode(&source.whole()?))
 }

@@ -1,7 +1,11 @@
 //! What is drawn of a change: the slots around it, each as the queries tell it.
 
 use crate::image::Image;
+use std::collections::BTreeMap;
 use tarnflaw::{ACCEPTED, IDLE, IDS, LAST_SLOT};
+
+/// What partitions are called, by id.
+pub type Names = BTreeMap<u8, String>;
 
 /// How many slots are drawn before the request slot, and from the base on.
 #[derive(Clone, Copy)]
@@ -96,6 +100,28 @@ impl Picture {
         };
         self.lanes.iter().filter_map(brought).collect()
     }
+
+    /// What is said of the shortfalls that partitions bring into the change.
+    pub fn brought_along(&self, names: &Names) -> String {
+        const MOST: usize = 4;
+        let brought = self.brought();
+        if brought.is_empty() {
+            return format!("No partition brings a shortfall into slot {}.", self.request_slot);
+        }
+        let told = brought.iter().take(MOST).map(|(id, shortfall)| {
+            let name = names.get(id).map_or(format!("id {id}"), String::clone);
+            format!("{name} at {shortfall}")
+        });
+        let told = told.collect::<Vec<_>>().join(", ");
+        let more = match brought.len().saturating_sub(MOST) {
+            0 => String::new(),
+            more => format!(", and {more} more"),
+        };
+        let slot = self.request_slot;
+        format!(
+            "The count goes on at slot {slot}: {told}{more}. Begun anew there, each would be at 0."
+        )
+    }
 }
 
 /// The timetables that were accepted, the last one last, as far back as pictures look.
@@ -110,14 +136,17 @@ impl History {
         History { images: vec![Image::empty()], around }
     }
 
-    /// The picture of a change that was accepted as the ordinal's request; it is the last of the history from now on.
-    pub fn accept(&mut self, ordinal: u64, image: &Image) -> Picture {
-        let first = image.request_slot().saturating_sub(self.around.before);
+    /// One more timetable is accepted. Those that are in force before all that a picture of it draws are forgotten.
+    pub fn accept(&mut self, image: &Image) {
+        let first = self.first(image);
         let needed = self.images.iter().rposition(|old| old.request_slot() <= first).unwrap_or(0);
         self.images.drain(..needed);
         self.images.push(image.clone());
-        let last = image.base().saturating_add(self.around.after).min(LAST_SLOT + 1);
-        self.picture(ordinal, image, first..last)
+    }
+
+    /// The first slot that a picture draws.
+    fn first(&self, image: &Image) -> u64 {
+        image.request_slot().saturating_sub(self.around.before)
     }
 
     /// The timetable in force in a slot: the last accepted of those whose request slot it is, or lies behind.
@@ -126,13 +155,16 @@ impl History {
         up_to.unwrap_or(&self.images[0])
     }
 
-    /// The picture of some slots around a change.
-    fn picture(&self, ordinal: u64, image: &Image, slots: std::ops::Range<u64>) -> Picture {
+    /// The picture of the last change, which the request with this ordinal brought.
+    pub fn picture(&self, ordinal: u64) -> Picture {
+        let image = &self.images[self.images.len() - 1];
+        let last = image.base().saturating_add(self.around.after).min(LAST_SLOT + 1);
         let owner = |slot| match tarnflaw::owner(&self.in_force(slot).0, slot) {
             told if told.number != ACCEPTED || told.owner == IDLE => None,
             told => Some(told.owner),
         };
-        let slots: Vec<Slot> = slots.map(|number| Slot { number, owner: owner(number) }).collect();
+        let slots = (self.first(image)..last).map(|number| Slot { number, owner: owner(number) });
+        let slots: Vec<Slot> = slots.collect();
         let anew = image.counted_anew();
         let lanes = (0..IDS).map(|id| Lane {
             id,

@@ -11,7 +11,8 @@ pub struct Requests {
     name: String,
     frames: Frames<Box<dyn Read>>,
     text: Option<Text>,
-    told: usize,
+    /// How many requests were told.
+    count: usize,
 }
 
 /// A text, and where each of its requests stands.
@@ -46,7 +47,7 @@ impl Requests {
         let name = source.name.clone();
         if source.first() == Some(FRAME_TAG) {
             let frames = Frames::of(Box::new(source) as Box<dyn Read>);
-            return Ok(Requests { name, frames, text: None, told: 0 });
+            return Ok(Requests { name, frames, text: None, count: 0 });
         }
         if let Some(first) =
             source.first().filter(|&byte| byte < b' ' && !b"\t\n\r".contains(&byte))
@@ -59,7 +60,7 @@ impl Requests {
             Ok(encoded) => {
                 let frames = Frames::of(Box::new(Cursor::new(encoded.frames)) as Box<dyn Read>);
                 let text = Some(Text { bytes, origins: encoded.origins });
-                Ok(Requests { name, frames, text, told: 0 })
+                Ok(Requests { name, frames, text, count: 0 })
             }
         }
     }
@@ -71,7 +72,7 @@ impl Requests {
 
     /// The next request.
     pub fn next(&mut self) -> Result<Put<'_>, Stop> {
-        self.told += 1;
+        self.count += 1;
         match self.frames.next() {
             Ok(Next::Frame(request, at)) => Ok(Put::Request(request, at)),
             Ok(Next::End) => Ok(Put::End),
@@ -88,7 +89,7 @@ impl Requests {
         let in_text = self
             .text
             .as_ref()
-            .and_then(|text| spot(&text.bytes, *text.origins.get(self.told - 1)?, byte));
+            .and_then(|text| spot(&text.bytes, *text.origins.get(self.count - 1)?, byte));
         in_text.map_or(Where::Byte(record_at + field as u64), Where::Text)
     }
 }

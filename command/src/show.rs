@@ -3,22 +3,22 @@
 use crate::arguments::Arguments;
 use crate::controller::Controller;
 use crate::output::write_file;
-use crate::picture::{Around, History, Picture};
+use crate::picture::{Around, History, Names, Picture};
 use crate::progress::Progress;
 use crate::requests::{Put, Requests};
 use crate::run::sentence;
 use crate::stop::{wrong, Ended, Stop, Verdict};
 use crate::svg::Svg;
 use crate::terminal::Terminal;
-use std::collections::BTreeMap;
+use crate::words::shown;
 use std::io::{self, BufWriter, IsTerminal, Write};
 use tarnflaw::{ACCEPTED, IDS};
 
 /// The options of the verb.
 pub const OPTIONS: &[&str] = &["--svg", "--only", "--before", "--after", "--columns", "--name"];
 
-/// What partitions are called, by id.
-pub type Names = BTreeMap<u8, String>;
+/// Characters that the name of a partition has at most.
+const LONGEST_NAME: usize = 40;
 
 /// Where pictures go.
 enum Drawing {
@@ -80,10 +80,10 @@ pub fn verb(arguments: &Arguments) -> Ended {
         let ordinal = controller.ordinal;
         let drawn = only.is_none_or(|only| only == ordinal);
         if told.number == ACCEPTED {
-            let picture = history.accept(ordinal, &controller.image);
-            if drawn {
-                drawing.draw(&picture)?;
-            }
+            history.accept(&controller.image);
+        }
+        if drawn && told.number == ACCEPTED {
+            drawing.draw(&history.picture(ordinal))?;
         } else if drawn {
             let why = sentence(&controller, &requests, &request, at, told);
             drawing.say(&format!("request {ordinal}: {why}"))?;
@@ -127,8 +127,15 @@ fn drawing(arguments: &Arguments) -> Result<Drawing, Stop> {
 /// What partitions are called.
 fn names(arguments: &Arguments) -> Result<Names, Stop> {
     let named = arguments.all("--name").map(|given| match given.split_once('=') {
-        Some((_, name)) if name.chars().any(char::is_control) => arguments
-            .misused("--name with a control character, and a name without one was expected"),
+        Some((_, name))
+            if name.chars().any(char::is_control) || name.chars().count() > LONGEST_NAME =>
+        {
+            let expected = format!("up to {LONGEST_NAME} characters that can be printed");
+            arguments.misused(&format!(
+                "'{}' for --name, and {expected} were expected",
+                shown(name.as_bytes())
+            ))
+        }
         Some((id, name)) => {
             let id = arguments.parsed("the id of --name", id, u64::from(IDS) - 1)?;
             Ok((id as u8, name.to_string()))

@@ -1,13 +1,15 @@
 //! Changes drawn as an SVG picture, one under another: slots from left to right, a lane for each partition.
 
 use crate::canvas::{Anchor, Canvas, ANEW, BAR, BASE, BOUND, GROUND, OWN, REQUEST, TRANSITION};
-use crate::picture::{Cell, Lane, Picture};
-use crate::show::Names;
+use crate::picture::{Cell, Lane, Names, Picture};
+use crate::words::folded;
 use std::fmt::Write;
 
-/// Left of the slots stand the names of the lanes; right of them is a margin.
+/// Left of the slots stand the names of the lanes, at least so wide; right of them is a margin.
 const LEFT: usize = 150;
 const RIGHT: usize = 24;
+/// The width of a letter of a lane's name, about.
+const LETTER: usize = 7;
 /// The margin of texts.
 const MARGIN: usize = 20;
 /// From a picture's top: its title, what is brought along, the marks, the numbers of the slots, their owners, and the first lane.
@@ -29,6 +31,7 @@ const CHARACTERS: usize = 110;
 pub struct Svg {
     names: Names,
     canvas: Canvas,
+    left: usize,
     width: usize,
     height: usize,
 }
@@ -99,6 +102,7 @@ impl Measures {
 struct Placed<'a> {
     picture: &'a Picture,
     measures: Measures,
+    left: usize,
     top: usize,
 }
 
@@ -110,7 +114,7 @@ impl Placed<'_> {
 
     /// Where the slot with an index begins, from left to right.
     fn left(&self, index: usize) -> usize {
-        LEFT + index * self.measures.slot
+        self.left + index * self.measures.slot
     }
 
     /// The end of the slots.
@@ -172,19 +176,23 @@ impl Placed<'_> {
 impl Svg {
     /// A drawing without a picture.
     pub fn new(names: Names) -> Svg {
-        Svg { names, canvas: Canvas::empty(), width: LEAST_WIDTH, height: 0 }
+        let letters = names.values().map(|name| "id 31 ".len() + name.chars().count()).max();
+        let left = LEFT.max(MARGIN + LETTER * letters.unwrap_or(0));
+        Svg { names, canvas: Canvas::empty(), left, width: LEAST_WIDTH, height: 0 }
     }
 
     /// Adds a change.
     pub fn draw(&mut self, picture: &Picture) {
-        let placed = Placed { picture, measures: Measures::of(picture), top: self.height };
+        let measures = Measures::of(picture);
+        let placed = Placed { picture, measures, left: self.left, top: self.height };
         self.put_transition(&placed);
         self.put_heads(&placed);
         for (index, lane) in picture.lanes.iter().enumerate() {
             self.put_lane(&placed, index, lane);
         }
         self.put_marks(&placed);
-        self.width = self.width.max(placed.right() + RIGHT);
+        let brought = LETTER * picture.brought_along(&self.names).chars().count();
+        self.width = self.width.max(placed.right() + RIGHT).max(MARGIN + brought);
         self.height = placed.bottom() + GAP;
     }
 
@@ -209,10 +217,10 @@ impl Svg {
         self.canvas.begin("font-weight='bold'");
         self.canvas.text((MARGIN, top + TITLE), 14, Anchor::Behind, &picture.title());
         self.canvas.end();
-        let brought = brought(picture, &self.names);
+        let brought = picture.brought_along(&self.names);
         self.canvas.text((MARGIN, top + BROUGHT), 12, Anchor::Behind, &brought);
-        self.canvas.text((LEFT - 12, top + NUMBERS), 11, Anchor::Before, "slot");
-        self.canvas.text((LEFT - 12, top + OWNERS), 11, Anchor::Before, "has it: id");
+        self.canvas.text((self.left - 12, top + NUMBERS), 11, Anchor::Before, "slot");
+        self.canvas.text((self.left - 12, top + OWNERS), 11, Anchor::Before, "has it: id");
         for (index, slot) in picture.slots.iter().enumerate() {
             let middle = placed.left(index) + placed.measures.slot / 2;
             let number = placed.slot_number(slot.number);
@@ -256,11 +264,11 @@ impl Svg {
     fn put_lane(&mut self, placed: &Placed, index: usize, lane: &Lane) {
         let name = self.names.get(&lane.id).map_or(String::new(), |name| format!(" {name}"));
         let (letters, small) = placed.measures.label;
-        let place = (LEFT - 12, placed.lane(index) + letters + 4);
+        let place = (self.left - 12, placed.lane(index) + letters + 4);
         self.canvas.text(place, letters, Anchor::Before, &format!("id {}{name}", lane.id));
         let place = (place.0, place.1 + small + 3);
         self.canvas.text(place, small, Anchor::Before, &lane.below());
-        let ground = format!("M{LEFT} {}H{}", placed.ground(index), placed.right());
+        let ground = format!("M{} {}H{}", self.left, placed.ground(index), placed.right());
         self.canvas.path(&ground, GROUND);
         for (slot, cell) in lane.cells.iter().enumerate() {
             if let Some(cell) = cell {
@@ -333,41 +341,4 @@ fn told(picture: &Picture, lane: usize, slot: usize, cell: &Cell) -> String {
         ("anew", cell.anew.unwrap_or(cell.shortfall).into()),
     ];
     figures.map(|(name, figure)| format!("data-{name}='{figure}'")).join(" ")
-}
-
-/// What is said of the shortfalls that partitions bring into a change.
-fn brought(picture: &Picture, names: &Names) -> String {
-    const MOST: usize = 4;
-    let brought = picture.brought();
-    if brought.is_empty() {
-        return format!("No partition brings a shortfall into slot {}.", picture.request_slot);
-    }
-    let told = brought.iter().take(MOST).map(|(id, shortfall)| {
-        let name = names.get(id).map_or(format!("id {id}"), String::clone);
-        format!("{name} at {shortfall}")
-    });
-    let told = told.collect::<Vec<_>>().join(", ");
-    let more = match brought.len().saturating_sub(MOST) {
-        0 => String::new(),
-        more => format!(", and {more} more"),
-    };
-    let slot = picture.request_slot;
-    format!("The count goes on at slot {slot}: {told}{more}. Begun anew there, each would be at 0.")
-}
-
-/// A text in lines of so many characters.
-fn folded(text: &str, width: usize) -> Vec<String> {
-    let mut lines = vec![String::new()];
-    for word in text.split(' ') {
-        let last = lines.len() - 1;
-        let line = &mut lines[last];
-        if line.is_empty() {
-            line.push_str(word);
-        } else if line.chars().count() + 1 + word.chars().count() <= width {
-            let _ = write!(line, " {word}");
-        } else {
-            lines.push(word.to_string());
-        }
-    }
-    lines
 }

@@ -1,7 +1,7 @@
 //! A change drawn in characters: a row for each slot, from top to bottom, and a column for each partition.
 
-use crate::picture::{Cell, Lane, Picture, Slot};
-use crate::show::Names;
+use crate::picture::{Cell, Lane, Names, Picture, Slot};
+use crate::words::folded;
 use std::fmt::Write;
 
 /// A terminal: what partitions are called there, how wide it is, and whether own slots are set in bold.
@@ -42,6 +42,9 @@ impl Terminal {
     pub fn draw(&self, picture: &Picture) -> String {
         let layout = self.layout(picture);
         let mut text = format!("{}\n", picture.title());
+        for line in folded(&picture.brought_along(&self.names), self.columns) {
+            let _ = writeln!(text, "{line}");
+        }
         text.push_str(legend(layout.size));
         if picture.lanes.is_empty() {
             text.push_str("nothing is listed in these slots\n");
@@ -151,7 +154,7 @@ impl Terminal {
 /// A shortfall as a bar: up to it `=`, at the bound `|`, and `o` where a count begun anew would stand. The whole width is the lane's largest bound.
 fn bar(cell: Cell, limit: u16, width: usize) -> String {
     let scaled = |figure: u16| usize::from(figure) * width / usize::from(limit);
-    let filled = (usize::from(cell.shortfall) * width).div_ceil(usize::from(limit));
+    let filled = scaled(cell.shortfall).max(usize::from(cell.shortfall > 0));
     let mut bar = vec!['='; filled];
     bar.resize(width + 1, ' ');
     bar[scaled(cell.limit())] = '|';

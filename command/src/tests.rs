@@ -5,9 +5,8 @@ use crate::decode::decode;
 use crate::explain;
 use crate::frames::{put_frame, Frames, Next};
 use crate::image::Image;
-use crate::picture::{Around, History, Picture};
+use crate::picture::{Around, History, Names, Picture};
 use crate::requests::Where;
-use crate::show::Names;
 use crate::stop::Verdict;
 use crate::svg::Svg;
 use crate::terminal::Terminal;
@@ -388,7 +387,8 @@ fn pictures(texts: &[String], around: Around) -> Vec<Picture> {
             Verdict::Done,
             "{text}"
         );
-        history.accept(controller.ordinal, &controller.image)
+        history.accept(&controller.image);
+        history.picture(controller.ordinal)
     };
     texts.iter().map(&mut accept).collect()
 }
@@ -428,11 +428,14 @@ fn pictures_fit_the_terminal() {
             for columns in [40, 80, 200] {
                 let texts = [listing(0, count, 8, 2), listing(slot, count, 7, 8)];
                 let terminal =
-                    Terminal { names: Names::from([(0, "ü".repeat(90))]), columns, bold: false };
+                    Terminal { names: Names::from([(0, "ü".repeat(40))]), columns, bold: false };
                 for picture in pictures(&texts, Around { before: 6, after: 8 }) {
                     let text = terminal.draw(&picture);
-                    let title = if columns < 80 { 3 } else { 0 };
-                    let longest = text.lines().skip(title).map(|line| line.chars().count()).max();
+                    let longest = text
+                        .lines()
+                        .filter(|line| columns >= 80 || !is_head(line))
+                        .map(|line| line.chars().count())
+                        .max();
                     assert!(
                         longest <= Some(columns),
                         "{count} partitions, {columns} columns:\n{text}"
@@ -442,6 +445,11 @@ fn pictures_fit_the_terminal() {
             }
         }
     }
+}
+
+/// Whether a line of a picture is its title, or tells what the signs mean.
+fn is_head(line: &str) -> bool {
+    ["request ", "figure", "* "].iter().any(|start| line.starts_with(start))
 }
 
 /// The slots of a picture that belong to a partition.
@@ -457,7 +465,7 @@ fn rows_drawn_by_hand() {
     let terminal =
         Terminal { names: Names::from([(1, "detector".to_string())]), columns: 50, bold: false };
     let text = terminal.draw(&drawn[1]);
-    let rows: Vec<&str> = text.lines().skip(4).collect();
+    let rows: Vec<&str> = text.lines().skip(6).collect();
     assert_eq!(
         rows,
         [
@@ -480,7 +488,7 @@ fn rows_drawn_by_hand() {
 fn bars_drawn_by_hand() {
     let b = "request slot 6 T 1\nlist 0 k 2 R 1\nlist 1 k 2 R 1\nlist 2 k 1 R 2\n".to_string();
     let drawn = pictures(&[listing(0, 2, 2, 1), b], Around { before: 1, after: 1 });
-    let mut svg = Svg::new(Names::from([(0, "pump & <loop>".to_string())]));
+    let mut svg = Svg::new(Names::from([(0, "a & <b>".to_string())]));
     svg.draw(&drawn[1]);
     svg.say("request 3: refused");
     let text = svg.finish();
@@ -491,7 +499,7 @@ fn bars_drawn_by_hand() {
     let bound = "<path d='M150 118.0H198V118.0H246V118.0H294' fill='none'";
     let anew = "<path d='M198 182.0H246V166.0H294' fill='none'";
     for expected in
-        [cell, bound, anew, ">id 0 pump &amp; &lt;loop&gt;</text>", ">request 3: refused</text>"]
+        [cell, bound, anew, ">id 0 a &amp; &lt;b&gt;</text>", ">request 3: refused</text>"]
     {
         assert!(text.contains(expected), "{expected}\n{text}");
     }
