@@ -1,6 +1,6 @@
 //! Tarnflaw for a Rust program: the functions of `include/tarnflaw.h` over slices. What each does, refuses and
-//! tells stands there; `examples/board` holds the declarations and constants here against it. It needs the archive
-//! (`rt staticlib board`) and no standard library.
+//! tells stands there; `examples/board` holds the declarations and constants here against it. It is a crate of its own,
+//! linked with the archive (`command/build` shows how), and needs no standard library.
 //!
 //! What a call is to tell is set to its largest value first, so that one which stayed unwritten would show.
 
