@@ -137,11 +137,15 @@ fn value(request: &[u8], place: usize) -> Reason {
             if !fits([id, 0, 1]) {
                 reason(place + 3, format!("id {id} is not 0 to 31"), "Ask for an id from 0 to 31.")
             } else if !fits([0, k, 1]) {
-                reason(place + 4, format!("k {k} is not 0 to 8"), "Ask with a k from 0 to 8.")
+                reason(
+                    place + 4,
+                    format!("k {k} of id {id} is not 0 to 8"),
+                    "Ask with a k from 0 to 8.",
+                )
             } else {
                 let bound = request[place + 5];
                 let remedy = "Ask with an R from 1 to 8, or by a short field.";
-                reason(place + 5, format!("R {bound} is not 1 to 8"), remedy)
+                reason(place + 5, format!("R {bound} of id {id} is not 1 to 8"), remedy)
             }
         }
     }
