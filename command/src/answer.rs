@@ -8,7 +8,7 @@ use crate::stop::{wrong, Ended, Stop, Verdict};
 use crate::words::{hex, Words};
 use std::fmt::Write as _;
 use std::io::{self, BufWriter, Write};
-use tarnflaw::{ACCEPTED, IDS, LENGTH_FIELD, NO_FIELD, OFFSET_FIELD, OWNERS_FIELD, SCHEDULE};
+use tarnflaw::{ACCEPTED, IDS, LENGTH_FIELD, OFFSET_FIELD, OWNERS_FIELD, SCHEDULE};
 
 /// `tarnflaw answer [FILE]`
 pub fn verb(arguments: &Arguments) -> Ended {
@@ -57,7 +57,7 @@ fn framed(name: &str, bytes: &[u8]) -> Result<Vec<Vec<u8>>, Stop> {
 fn lines(name: &str, text: &[u8]) -> Result<Vec<Vec<u8>>, Stop> {
     let mut records = Vec::new();
     for (index, line) in text.split(|&byte| byte == b'\n').enumerate() {
-        let mut words = Words::of(line, index + 1);
+        let mut words = Words::checked(line, index + 1).or_else(|fault| wrong(fault.told(name)))?;
         let mut bytes = Vec::new();
         let mut some = false;
         while let Some(word) = words.next() {
@@ -96,23 +96,12 @@ fn refused(record: &[u8], number: u8, place: usize) -> String {
     let mut at = 0;
     loop {
         let field = tarnflaw::answer_field(record, &mut at);
-        match field.tag {
-            NO_FIELD => break,
-            LENGTH_FIELD => {
-                _ = writeln!(text, "  before it, not known to be an answer: length {}", field.first)
-            }
-            OWNERS_FIELD => {
-                _ = writeln!(text, "  before it, not known to be an answer: owners {}", field.first)
-            }
-            OFFSET_FIELD => {
-                _ = writeln!(
-                    text,
-                    "  before it, not known to be an answer: id {}: offset {}",
-                    field.first, field.second
-                );
-            }
-            _ => break,
-        }
+        let told = match field.tag {
+            LENGTH_FIELD => format!("length {}", field.first),
+            OWNERS_FIELD => format!("number of owners {}", field.first),
+            OFFSET_FIELD => format!("id {}: offset {}", field.first, field.second),
+            _ => return text,
+        };
+        let _ = writeln!(text, "  before it, not known to be an answer: {told}");
     }
-    text
 }

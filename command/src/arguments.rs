@@ -17,6 +17,8 @@ pub struct Arguments {
     flags: Vec<String>,
     values: Vec<(String, String)>,
     pub words: Vec<String>,
+    /// Help is asked for; what stands behind that is not looked at.
+    pub help: bool,
 }
 
 impl Arguments {
@@ -27,10 +29,14 @@ impl Arguments {
             flags: Vec::new(),
             values: Vec::new(),
             words: Vec::new(),
+            help: false,
         };
         let mut left = given.iter();
         while let Some(word) = left.next() {
-            if word == "--" {
+            if word == "--help" || word == "-h" {
+                arguments.help = true;
+                break;
+            } else if word == "--" {
                 arguments.words.extend(left.by_ref().cloned());
             } else if !word.starts_with('-') || word == "-" {
                 arguments.words.push(word.clone());
@@ -47,6 +53,9 @@ impl Arguments {
 
     /// Takes an option with a value.
     fn valued(&mut self, takes: &Takes, name: &str, value: Option<String>) -> Result<(), Stop> {
+        if takes.flags.contains(&name) {
+            return self.misused(&format!("{name} takes no value"));
+        }
         if !takes.valued.contains(&name) {
             return self.misused(&format!("{name} is no option of it"));
         }

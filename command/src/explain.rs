@@ -106,13 +106,16 @@ fn reason(image: &Image, request: &[u8], told: Change) -> Reason {
 
 /// What is said of a field that is not in its form: which one is due.
 fn due(request: &[u8], place: usize) -> String {
-    let form = match place {
-        SLOT_FIELD => "field 01, the slot, 01 00 08 and 8 bytes, is due",
-        LIMIT_FIELD => "field 02, T, 02 00 01 and 1 byte, is due",
-        _ => "field 03 of an id, 03 00 03 and id, k, R or 03 00 02 and id, k, may stand",
+    let (field, form) = match place {
+        SLOT_FIELD => ("field 01, the slot,", "01 00 08 and 8 bytes"),
+        LIMIT_FIELD => ("field 02, T,", "02 00 01 and 1 byte"),
+        _ => ("field 03 of an id", "03 00 03 and id, k, R, or 03 00 02 and id, k"),
     };
-    let what = if place == request.len() { "the record ends" } else { "another field stands" };
-    format!("{what} where {form}")
+    if place == request.len() {
+        format!("the record ends, and {field} is due: {form}")
+    } else {
+        format!("no whole {field} stands here: {form}")
+    }
 }
 
 /// The value that is out of range in the field that begins at a place. Of an id's field the library's writer tells which one it is.
@@ -175,6 +178,7 @@ fn behind(image: &Image, request: &[u8], place: usize) -> Reason {
     let listed = asked.number == ACCEPTED;
     let stands = if listed { asked.shortfall } else { image.kept(id) };
     let given = request[field + 2] == 3;
+    // A short field that is refused 8 is one of an id that is not listed (promise 16): it asks R 1.
     let bound = if given { request[field + 5] } else { 1 };
     let since = if listed { "" } else { ", with which it left," };
     let what = format!("id {id} stands at {stands}{since} at slot {slot}, and R {bound} is asked");

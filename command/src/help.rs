@@ -64,8 +64,8 @@ request slot the timetable in force there is asked, and from it on the new one.
   --svg FILE       draw into an SVG file, and not in the terminal; - is standard output
   --only N         draw only what request N brought, counted from 1
   --before N       slots before the request slot (at most 64; if not given, 6)
-  --after N        slots from the base on (at most 256; if not given, 8)
-  --columns N      columns of the terminal (40 or more; if not given, COLUMNS or 80)
+  --after N        slots from the base on (1 to 256; if not given, 8)
+  --columns N      columns of the terminal (60 or more; if not given, COLUMNS or 80)
   --name ID=NAME   what the partition with this id is called
 
 Example: tarnflaw show --name '0=pump loop' --name 1=detector --name 2=valve examples/a-and-b.txt

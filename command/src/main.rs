@@ -89,12 +89,15 @@ fn command(given: &[String]) -> Ended {
     let words: Vec<&str> = given.iter().map(String::as_str).collect();
     match words[..] {
         [] => wrong("tarnflaw: no verb is given; see: tarnflaw --help".to_string()),
-        ["--help" | "-h" | "help"] => told(help::COMMAND),
+        ["--help" | "-h" | "help"] | ["help", "--help" | "-h"] => told(help::COMMAND),
         ["--version" | "-V"] => version(),
         ["help", topic] => topic_help(topic),
+        ["help", ..] => wrong("tarnflaw: help takes one topic; see: tarnflaw --help".to_string()),
         [name, ..] => match VERBS.iter().find(|verb| verb.takes.verb == name) {
-            Some(verb) if words.contains(&"--help") || words.contains(&"-h") => told(verb.help),
-            Some(verb) => (verb.does)(&Arguments::of(&verb.takes, &given[1..])?),
+            Some(verb) => match Arguments::of(&verb.takes, &given[1..])? {
+                arguments if arguments.help => told(verb.help),
+                arguments => (verb.does)(&arguments),
+            },
             None => wrong(format!("tarnflaw: {name} is no verb of it; see: tarnflaw --help")),
         },
     }

@@ -11,8 +11,13 @@ pub fn write_file(name: &str, bytes: &[u8]) -> Result<(), Stop> {
     }
     match fs::write(name, bytes) {
         Ok(()) => Ok(()),
-        Err(error) => wrong(format!("{name}: cannot be written: {error}")),
+        Err(error) => wrong(unwritable(name, &error)),
     }
+}
+
+/// What is said of a file that cannot be written.
+pub fn unwritable(name: &str, error: &io::Error) -> String {
+    format!("{name}: cannot be written: {error}")
 }
 
 /// Writes to standard output.

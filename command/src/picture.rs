@@ -19,6 +19,8 @@ pub struct Picture {
     pub ordinal: u64,
     pub request_slot: u64,
     pub base: u64,
+    /// The partitions that come into the change with a shortfall: id and figure.
+    pub brought: Vec<(u8, u16)>,
     pub slots: Vec<Slot>,
     pub lanes: Vec<Lane>,
 }
@@ -91,20 +93,10 @@ impl Picture {
         format!("request {ordinal} accepted: slot {slot}, length {length}, base {}", self.base)
     }
 
-    /// The partitions that come into the change with a shortfall: id and figure.
-    pub fn brought(&self) -> Vec<(u8, u16)> {
-        let at = self.slots.iter().position(|slot| slot.number == self.request_slot);
-        let brought = |lane: &Lane| {
-            let cell = lane.cells[at?]?;
-            cell.anew.map(|_| (lane.id, cell.shortfall))
-        };
-        self.lanes.iter().filter_map(brought).collect()
-    }
-
     /// What is said of the shortfalls that partitions bring into the change.
     pub fn brought_along(&self, names: &Names) -> String {
         const MOST: usize = 4;
-        let brought = self.brought();
+        let brought = &self.brought;
         if brought.is_empty() {
             return format!("No partition brings a shortfall into slot {}.", self.request_slot);
         }
@@ -171,7 +163,13 @@ impl History {
             cells: slots.iter().map(|&slot| self.cell(id, slot, image, &anew)).collect(),
         });
         let lanes = lanes.filter(|lane| lane.cells.iter().any(Option::is_some)).collect();
-        Picture { ordinal, request_slot: image.request_slot(), base: image.base(), slots, lanes }
+        let request_slot = image.request_slot();
+        let brought = (0..IDS).filter_map(|id| {
+            let told = tarnflaw::standing(&image.0, id, request_slot);
+            (told.number == ACCEPTED && told.shortfall > 0).then_some((id, told.shortfall))
+        });
+        let brought = brought.collect();
+        Picture { ordinal, request_slot, base: image.base(), brought, slots, lanes }
     }
 
     /// How a partition stands in a slot, if it is listed there.

@@ -6,7 +6,9 @@ use crate::image::Image;
 use crate::numbers::says;
 use crate::output::complain;
 use crate::requests::{Put, Requests};
+use crate::run::sentence;
 use crate::stop::{wrong, Ended, Stop, Verdict};
+use crate::words::number;
 use std::io::{self, BufWriter, Write};
 use std::ops::RangeInclusive;
 use tarnflaw::{ACCEPTED, IDLE, NOT_LISTED};
@@ -72,8 +74,11 @@ fn answer(
 /// The slots that a word names: one, or those from the first to the last of a range.
 fn range(arguments: &Arguments, word: &str) -> Result<RangeInclusive<u64>, Stop> {
     let (first, last) = word.split_once("..").unwrap_or((word, word));
-    let slot = |word| arguments.parsed("a slot", word, u64::MAX);
-    let range = slot(first)?..=slot(last)?;
+    let (Some(first), Some(last)) = (number(first.as_bytes()), number(last.as_bytes())) else {
+        return arguments
+            .misused(&format!("'{word}', and a slot, or a range such as 6..14, was expected"));
+    };
+    let range = first..=last;
     if range.is_empty() {
         return arguments.misused(&format!(
             "'{word}', and a range from a slot to one not before it was expected"
@@ -89,15 +94,13 @@ fn after(file: &str) -> Result<(Image, Verdict), Stop> {
     let mut verdict = Verdict::Done;
     loop {
         match requests.next()? {
-            Put::Request(request, _) => {
-                let told = controller.put(request);
+            Put::Request(request, at) => {
+                let request = request.to_vec();
+                let told = controller.put(&request);
                 verdict = verdict.and(Verdict::of(told.number));
                 if told.number != ACCEPTED {
-                    let (ordinal, number) = (controller.ordinal, told.number);
-                    complain(&format!(
-                        "{file}: request {ordinal} was refused {number}, {}",
-                        says(number)
-                    ));
+                    let why = sentence(&controller, &requests, &request, at, told);
+                    complain(&format!("{file}: request {}: {why}", controller.ordinal));
                 }
             }
             Put::End => return Ok((controller.image, verdict)),

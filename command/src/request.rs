@@ -91,7 +91,7 @@ fn at(figures: &Figures, place: usize) -> String {
         LIMIT_PLACE => format!("T {}, and at most {LONGEST} was expected", figures.limit),
         entry => match figures.listing.get(entry) {
             Some([id, k, bound]) => format!(
-                "entry {entry}, list {id} k {k} R {bound}, and ids rising from 0 to 31, k 0 to 8 and R 1 to 8 were expected"
+                "list {id} k {k} R {bound}, entry {entry} counted from 0, and ids rising from 0 to 31, k 0 to 8 and R 1 to 8 were expected"
             ),
             None => format!("entry {entry}"),
         },

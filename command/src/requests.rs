@@ -15,10 +15,22 @@ pub struct Requests {
     count: usize,
 }
 
-/// A text, and where each of its requests stands.
+/// A text, and where its requests and its rest stand.
 struct Text {
     bytes: Vec<u8>,
     origins: Vec<Origin>,
+    rest: Option<(Origin, u64)>,
+}
+
+impl Text {
+    /// The word that says a byte of the request with an index, or, behind the last one, of the rest; the byte is told in its record and among the frames.
+    fn spot(&self, index: usize, byte: usize, framed: u64) -> Option<Spot> {
+        match (self.origins.get(index), self.rest) {
+            (Some(&origin), _) => spot(&self.bytes, origin, byte),
+            (None, Some((origin, from))) => spot(&self.bytes, origin, (framed - from) as usize),
+            (None, None) => None,
+        }
+    }
 }
 
 /// What comes next.
@@ -59,7 +71,7 @@ impl Requests {
             Err(fault) => wrong(fault.told(&name)),
             Ok(encoded) => {
                 let frames = Frames::of(Box::new(Cursor::new(encoded.frames)) as Box<dyn Read>);
-                let text = Some(Text { bytes, origins: encoded.origins });
+                let text = Some(Text { bytes, origins: encoded.origins, rest: encoded.rest });
                 Ok(Requests { name, frames, text, count: 0 })
             }
         }
@@ -77,7 +89,11 @@ impl Requests {
             Ok(Next::Frame(request, at)) => Ok(Put::Request(request, at)),
             Ok(Next::End) => Ok(Put::End),
             Ok(Next::Bad(byte, said)) => {
-                Ok(Put::BadFrame(format!("{}: byte {byte}: {said}", self.name)))
+                let spot = self.text.as_ref().and_then(|text| text.spot(self.count - 1, 0, byte));
+                let place = spot.map_or(format!(" byte {byte}"), |spot| {
+                    format!("{}:{}", spot.line, spot.column)
+                });
+                Ok(Put::BadFrame(format!("{}:{place}: {said}", self.name)))
             }
             Err(error) => wrong(unreadable(&self.name, &error)),
         }
@@ -86,10 +102,8 @@ impl Requests {
     /// Where something of the request stands that was told last: in a text the word that says a byte of the record, in frames the byte at which
     /// that byte's field begins, the record beginning at a byte of the frames.
     pub fn place(&self, record_at: u64, byte: usize, field: usize) -> Where {
-        let in_text = self
-            .text
-            .as_ref()
-            .and_then(|text| spot(&text.bytes, *text.origins.get(self.count - 1)?, byte));
+        let framed = record_at + byte as u64;
+        let in_text = self.text.as_ref().and_then(|text| text.spot(self.count - 1, byte, framed));
         in_text.map_or(Where::Byte(record_at + field as u64), Where::Text)
     }
 }

@@ -4,95 +4,99 @@ use crate::arguments::Arguments;
 use crate::controller::Controller;
 use crate::decode::put_bytes;
 use crate::explain::{accepted, refused};
-use crate::output::write_file;
+use crate::output::unwritable;
 use crate::progress::Progress;
 use crate::requests::{Put, Requests};
-use crate::stop::{wrong, Ended, Verdict};
+use crate::stop::{wrong, Ended, Stop, Verdict};
+use std::fs::File;
 use std::io::{self, BufWriter, Write};
 use tarnflaw::{Change, ACCEPTED};
 
-/// What is asked of a run.
-struct Run {
-    name: String,
-    explain: bool,
-    answers: Option<String>,
-}
-
 /// `tarnflaw run [FILE]`
 pub fn verb(arguments: &Arguments) -> Ended {
-    let answers = arguments.value("--answers").map(str::to_string);
-    run(&Run { name: arguments.file()?, explain: arguments.has("--explain"), answers })
-}
-
-/// Runs the requests of an input.
-fn run(asked: &Run) -> Ended {
-    let mut requests = Requests::open(&asked.name)?;
+    let mut requests = Requests::open(&arguments.file()?)?;
+    let answers = arguments.value("--answers").map(Archive::open).transpose()?;
+    let explain = arguments.has("--explain");
+    let mut run = Run { controller: Controller::empty(), verdict: Verdict::Done, answers };
     let mut output = BufWriter::with_capacity(1 << 16, io::stdout().lock());
     let mut progress = Progress::begin();
-    let mut answered = Answered {
-        controller: Controller::empty(),
-        verdict: Verdict::Done,
-        answers: String::new(),
-    };
     let bad = loop {
         if requests.waits() {
             output.flush()?;
         }
         match requests.next()? {
             Put::Request(request, at) => {
-                let told = answered.put(asked, request, &mut output)?;
-                if asked.explain {
+                let told = run.put(request, &mut output)?;
+                if explain {
                     let request = request.to_vec();
-                    writeln!(
-                        output,
-                        "  {}",
-                        sentence(&answered.controller, &requests, &request, at, told)
-                    )?;
+                    let why = sentence(&run.controller, &requests, &request, at, told);
+                    writeln!(output, "  {why}")?;
                 }
             }
             Put::End => break None,
             Put::BadFrame(said) => break Some(said),
         }
-        progress.tell(answered.controller.ordinal);
+        progress.tell(run.controller.ordinal);
     };
     if bad.is_some() {
         output.write_all(b"bad frame\n")?;
     }
     output.flush()?;
-    if let Some(file) = &asked.answers {
-        write_file(file, answered.answers.as_bytes())?;
-    }
-    bad.map_or(Ok(answered.verdict), wrong)
+    run.answers.map_or(Ok(()), Archive::finish)?;
+    bad.map_or(Ok(run.verdict), wrong)
 }
 
-/// What was answered up to here.
-struct Answered {
+/// A run up to here.
+struct Run {
     controller: Controller,
     verdict: Verdict,
-    /// The answer records, a line each.
-    answers: String,
+    answers: Option<Archive>,
 }
 
-impl Answered {
-    /// Puts a request, and writes its line.
-    fn put(&mut self, asked: &Run, request: &[u8], output: &mut impl Write) -> io::Result<Change> {
+impl Run {
+    /// Puts a request, writes its line, and archives its answer.
+    fn put(&mut self, request: &[u8], output: &mut impl Write) -> Result<Change, Stop> {
         let told = self.controller.put(request);
         self.verdict = self.verdict.and(Verdict::of(told.number));
-        if asked.answers.is_some() && told.number == ACCEPTED {
-            put_bytes(&mut self.answers, "bytes", self.controller.answer(told));
-        }
-        let mut line = Line::new();
         let length = self.controller.length(told) as u64;
-        let figures = [
-            self.controller.ordinal,
-            told.number.into(),
-            told.place as u64,
-            told.tries.into(),
-            length,
-        ];
-        figures.iter().for_each(|&figure| line.put(figure));
+        let (place, tries) = (told.place as u64, told.tries.into());
+        let mut line = Line::new();
+        for figure in [self.controller.ordinal, told.number.into(), place, tries, length] {
+            line.put(figure);
+        }
         output.write_all(line.text())?;
+        if let (Some(answers), ACCEPTED) = (&mut self.answers, told.number) {
+            answers.put(self.controller.answer(told))?;
+        }
         Ok(told)
+    }
+}
+
+/// A file of answer records, a line of bytes each.
+struct Archive {
+    name: String,
+    file: BufWriter<File>,
+}
+
+impl Archive {
+    /// Begins the file anew.
+    fn open(name: &str) -> Result<Archive, Stop> {
+        match File::create(name) {
+            Ok(file) => Ok(Archive { name: name.to_string(), file: BufWriter::new(file) }),
+            Err(error) => wrong(unwritable(name, &error)),
+        }
+    }
+
+    /// Adds a record.
+    fn put(&mut self, record: &[u8]) -> Result<(), Stop> {
+        let mut line = String::new();
+        put_bytes(&mut line, "bytes", record);
+        self.file.write_all(line.as_bytes()).or_else(|error| wrong(unwritable(&self.name, &error)))
+    }
+
+    /// Ends the file.
+    fn finish(mut self) -> Result<(), Stop> {
+        self.file.flush().or_else(|error| wrong(unwritable(&self.name, &error)))
     }
 }
 

@@ -58,10 +58,7 @@ impl Drawing {
 
 /// `tarnflaw show [FILE]`
 pub fn verb(arguments: &Arguments) -> Ended {
-    let around = Around {
-        before: arguments.number("--before", 64, 6)?,
-        after: arguments.number("--after", 256, 8)?,
-    };
+    let around = around(arguments)?;
     let only = only(arguments)?;
     let mut drawing = drawing(arguments)?;
     let mut requests = Requests::open(&arguments.file()?)?;
@@ -100,10 +97,19 @@ pub fn verb(arguments: &Arguments) -> Ended {
 
 /// The one request whose change is to be drawn, if one is named.
 fn only(arguments: &Arguments) -> Result<Option<u64>, Stop> {
-    match arguments.number("--only", u64::MAX, u64::MAX)? {
+    let Some(given) = arguments.value("--only") else { return Ok(None) };
+    match arguments.parsed("--only", given, u64::MAX)? {
         0 => arguments.misused("--only 0, and a request counted from 1 was expected"),
-        u64::MAX => Ok(None),
         only => Ok(Some(only)),
+    }
+}
+
+/// How many slots are to be drawn around a change, the first from the base on among them.
+fn around(arguments: &Arguments) -> Result<Around, Stop> {
+    let before = arguments.number("--before", 64, 6)?;
+    match arguments.number("--after", 256, 8)? {
+        0 => arguments.misused("--after 0, and 1 slot or more was expected"),
+        after => Ok(Around { before, after }),
     }
 }
 
@@ -114,12 +120,12 @@ fn drawing(arguments: &Arguments) -> Result<Drawing, Stop> {
         return Ok(Drawing::Svg(Svg::new(names), file.to_string()));
     }
     let shell = std::env::var("COLUMNS").ok().and_then(|columns| columns.parse().ok());
-    let columns = arguments.number("--columns", 1000, shell.unwrap_or(80).clamp(40, 1000))?;
-    if columns < 40 {
-        return arguments.misused("--columns under 40, and 40 or more were expected");
+    let columns = arguments.number("--columns", 1000, shell.unwrap_or(80).clamp(60, 1000))?;
+    if columns < 60 {
+        return arguments.misused("--columns under 60, and 60 or more were expected");
     }
-    let bold = io::stdout().is_terminal()
-        && std::env::var_os("NO_COLOR").map_or(true, |value| value.is_empty());
+    let set = |name: &str| std::env::var_os(name).unwrap_or_default();
+    let bold = io::stdout().is_terminal() && set("NO_COLOR").is_empty() && set("TERM") != "dumb";
     let output = BufWriter::new(io::stdout().lock());
     Ok(Drawing::Terminal(Terminal { names, columns: columns as usize, bold }, output))
 }
@@ -127,20 +133,24 @@ fn drawing(arguments: &Arguments) -> Result<Drawing, Stop> {
 /// What partitions are called.
 fn names(arguments: &Arguments) -> Result<Names, Stop> {
     let named = arguments.all("--name").map(|given| match given.split_once('=') {
-        Some((_, name))
-            if name.chars().any(char::is_control) || name.chars().count() > LONGEST_NAME =>
-        {
-            let expected = format!("up to {LONGEST_NAME} characters that can be printed");
+        Some((id, name)) if is_name(name) => {
+            let id = arguments.parsed("the id of --name", id, u64::from(IDS) - 1)?;
+            Ok((id as u8, name.to_string()))
+        }
+        Some((_, name)) => {
+            let expected = format!("1 to {LONGEST_NAME} characters that can be printed");
             arguments.misused(&format!(
                 "'{}' for --name, and {expected} were expected",
                 shown(name.as_bytes())
             ))
         }
-        Some((id, name)) => {
-            let id = arguments.parsed("the id of --name", id, u64::from(IDS) - 1)?;
-            Ok((id as u8, name.to_string()))
-        }
         None => arguments.misused(&format!("'{given}' for --name, and ID=NAME was expected")),
     });
     named.collect()
+}
+
+/// Whether a text can stand in a picture as a name: it is short, and each character can be printed and stand in XML.
+fn is_name(text: &str) -> bool {
+    let fits = |letter: char| !letter.is_control() && !('\u{fffe}'..='\u{ffff}').contains(&letter);
+    (1..=LONGEST_NAME).contains(&text.chars().count()) && text.chars().all(fits)
 }

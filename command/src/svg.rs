@@ -202,7 +202,7 @@ impl Svg {
             self.height += LINE;
             self.canvas.text((MARGIN, self.height), 12, Anchor::Behind, &line);
         }
-        self.height += GAP - LINE;
+        self.height += GAP;
     }
 
     /// The whole drawing, with what its signs mean.
@@ -248,15 +248,16 @@ impl Svg {
         let (y, bottom) = (placed.top + MARKS, placed.bottom());
         let down = |x: usize| format!("M{x} {}V{bottom}", y + 5);
         self.canvas.path(&down(from), REQUEST);
+        let (slot_label, base_label) = (placed.slot_number(slot), placed.slot_number(base));
         if slot == base {
-            let both = format!("request slot {slot}, base {slot}");
+            let both = format!("request slot {slot_label}, base {base_label}");
             self.canvas.text((from, y), 12, Anchor::Around, &both);
             return;
         }
-        self.canvas.text((from - 3, y), 12, Anchor::Before, &format!("request slot {slot}"));
+        self.canvas.text((from - 3, y), 12, Anchor::Before, &format!("request slot {slot_label}"));
         if to < placed.right() {
             self.canvas.path(&down(to), BASE);
-            self.canvas.text((to + 3, y), 12, Anchor::Behind, &format!("base {base}"));
+            self.canvas.text((to + 3, y), 12, Anchor::Behind, &format!("base {base_label}"));
         }
     }
 
@@ -314,7 +315,8 @@ impl Svg {
         self.canvas.rectangle(corner(510, 0), (26.0, 8.0), OWN);
         self.canvas.rectangle(corner(20, second), (26.0, 12.0), TRANSITION);
         self.canvas.path(&sample(130, second), ANEW);
-        let anew = "and (figure): if counted anew at the request slot, which is not the deficit";
+        let anew =
+            "if counted anew at the request slot, with room also in brackets: not the deficit";
         let texts = [
             (52, 0, "shortfall (\u{201c}deficit\u{201d}) at the slot\u{2019}s start, in 256ths of a slot"),
             (402, 0, "its bound, 256 R"),

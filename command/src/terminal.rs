@@ -41,13 +41,14 @@ impl Terminal {
     /// Draws a change.
     pub fn draw(&self, picture: &Picture) -> String {
         let layout = self.layout(picture);
-        let mut text = format!("{}\n", picture.title());
-        for line in folded(&picture.brought_along(&self.names), self.columns) {
-            let _ = writeln!(text, "{line}");
-        }
-        text.push_str(legend(layout.size));
+        let mut text = String::new();
+        let mut heads = vec![picture.title(), picture.brought_along(&self.names)];
+        heads.extend(legend(layout.size).iter().map(|line| line.to_string()));
         if picture.lanes.is_empty() {
-            text.push_str("nothing is listed in these slots\n");
+            heads.push("nothing is listed in these slots".to_string());
+        }
+        for line in heads.iter().flat_map(|head| folded(head, self.columns)) {
+            let _ = writeln!(text, "{line}");
         }
         for lanes in picture.lanes.chunks(layout.beside.max(1)) {
             text.push('\n');
@@ -90,34 +91,41 @@ impl Terminal {
         }
     }
 
-    /// The heads of partitions: their ids, and with room what they are called and their bounds.
+    /// The heads of partitions: their ids, and with room what they are called; their bounds.
     fn put_heads(&self, text: &mut String, layout: &Layout, lanes: &[Lane]) {
         let width = layout.lane;
-        let heads: [Box<dyn Fn(&Lane) -> String>; 2] = match layout.size {
-            Size::Bar => [
-                Box::new(|lane| {
-                    let name =
-                        self.names.get(&lane.id).map_or(String::new(), |name| format!(" {name}"));
-                    format!("{:width$}", cut(&format!("id {}{name}", lane.id), width - 1))
-                }),
-                Box::new(|lane| format!("{:width$}", cut(&lane.below(), width - 1))),
-            ],
-            Size::Figure => [
-                Box::new(|lane| format!("{:>4}{:1$}", format!("id{}", lane.id), width - 4)),
-                Box::new(|lane| format!("{:>4}{:1$}", format!("R{}", bounds(lane)), width - 4)),
-            ],
-            Size::Eighths => [
-                Box::new(|lane| format!("{:<width$}", tens(lane.id))),
-                Box::new(|lane| format!("{:<width$}", lane.id % 10)),
-            ],
-        };
-        for (index, head) in heads.iter().enumerate() {
-            let label = if index == 0 { "" } else { "slot" };
-            let owner = if index == 0 { "" } else { "has" };
-            let mut row = format!("{label:>0$} {owner:>3}  ", layout.slot);
-            row.extend(lanes.iter().map(head));
+        let rows = lanes.iter().map(|lane| self.heads(lane, layout)).collect::<Vec<_>>();
+        let count = rows.iter().map(Vec::len).max().unwrap_or(0);
+        for index in 0..count {
+            let (slot, has) = if index + 1 == count { ("slot", "has") } else { ("", "") };
+            let mut row = format!("{slot:>0$} {has:>3}  ", layout.slot);
+            row.extend(rows.iter().map(|heads| format!("{:width$}", heads[index])));
             text.push_str(row.trim_end());
             text.push('\n');
+        }
+    }
+
+    /// The head of a partition, a line each: no figure of it is cut.
+    fn heads(&self, lane: &Lane, layout: &Layout) -> Vec<String> {
+        let id = lane.id;
+        let bounds = || lane.bounds().iter().map(u8::to_string).collect::<Vec<_>>().join("-");
+        match layout.size {
+            Size::Bar => {
+                let name = self.names.get(&id).map_or(String::new(), |name| format!(" {name}"));
+                let named = format!("id {id}{name}").chars().take(layout.lane - 1).collect();
+                let below = Some(lane.below()).filter(|below| below.len() < layout.lane);
+                vec![named, below.unwrap_or_else(|| format!("R {}", bounds()))]
+            }
+            Size::Figure => {
+                vec![
+                    format!("{:>4}", format!("id{id}")),
+                    format!("{:>4}", format!("R{}", bounds())),
+                ]
+            }
+            Size::Eighths => {
+                let tens = if id < 10 { " ".to_string() } else { (id / 10).to_string() };
+                vec![tens, (id % 10).to_string(), format!("{}", lane.limit() / 256)]
+            }
         }
     }
 
@@ -139,7 +147,7 @@ impl Terminal {
             }
             Size::Figure => format!("{:>4}{own}", cell.shortfall),
             Size::Eighths => {
-                format!("{}{own}", u32::from(cell.shortfall) * 8 / u32::from(cell.limit()))
+                format!("{}{own}", u32::from(cell.shortfall) * 8 / u32::from(lane.limit()))
             }
         };
         let drawn = format!("{drawn:width$}");
@@ -165,18 +173,19 @@ fn bar(cell: Cell, limit: u16, width: usize) -> String {
 }
 
 /// What the signs mean.
-fn legend(size: Size) -> &'static str {
+fn legend(size: Size) -> &'static [&'static str] {
     match size {
-        Size::Bar => {
-            "figure and = shortfall at the slot's start, in 256ths   | its bound, 256 R\n\
-             * its own slot   o if counted anew at the request slot: not the deficit\n"
-        }
+        Size::Bar => &[
+            "figure and = shortfall at the slot's start, in 256ths   | its bound, 256 R",
+            "* its own slot   o if counted anew at the request slot: not the deficit",
+        ],
         Size::Figure => {
-            "figure: shortfall at the slot's start, in 256ths, below 256 R   * its own slot\n"
+            &["figure: shortfall at the slot's start, in 256ths, below 256 R   * its own slot"]
         }
-        Size::Eighths => {
-            "figure: shortfall at the slot's start, in eighths of its bound   * its own slot\n"
-        }
+        Size::Eighths => &[
+            "figure: shortfall at the slot's start, in eighths of 256 R   * its own slot",
+            "above it the id, and R, the largest in these slots",
+        ],
     }
 }
 
@@ -201,23 +210,4 @@ fn slot_label(picture: &Picture, slot: Slot) -> String {
         Some(behind) => format!("+{behind}"),
         None => format!("-{}", picture.request_slot - slot.number),
     }
-}
-
-/// The bounds of a partition.
-fn bounds(lane: &Lane) -> String {
-    lane.bounds().iter().map(u8::to_string).collect::<Vec<_>>().join("-")
-}
-
-/// The first digit of an id of two digits.
-fn tens(id: u8) -> String {
-    if id < 10 {
-        " ".to_string()
-    } else {
-        (id / 10).to_string()
-    }
-}
-
-/// The first characters of a text.
-fn cut(text: &str, width: usize) -> String {
-    text.chars().take(width).collect()
 }

@@ -10,7 +10,7 @@ use crate::requests::Where;
 use crate::stop::Verdict;
 use crate::svg::Svg;
 use crate::terminal::Terminal;
-use crate::text::{encode, spot, Spot};
+use crate::text::{encode, spot, Encoded, Spot};
 use crate::words::{column, hex, number, shown};
 use std::io::{self, Read};
 
@@ -197,7 +197,7 @@ fn messages_of_wrong_lines() {
         ("rest 4", 6, format!("'4', and {hex}")),
         ("list 1 k 2 R 1\r", 15, "a carriage return, and line feeds alone were expected".into()),
         ("# ü, and then\r", 14, "a carriage return, and line feeds alone were expected".into()),
-        ("ü\tbytes", 1, "'\\u{fc}', and request, list, bytes or rest was expected".into()),
+        ("ü\tbytes", 1, "'ü', and request, list, bytes or rest was expected".into()),
     ];
     for (line, column, expected) in wrong {
         let text =
@@ -246,8 +246,8 @@ fn words_are_shown_plainly() {
 #[test]
 fn spots_of_bytes() {
     let text =
-        b"# one\nrequest slot 6 T 1\n\n  list 0 k 2 R 1 # pump\nlist 1 k 3\nbytes 01 00\nrest 40\n";
-    let origins = encode(text).expect("a text").origins;
+        b"# one\nrequest slot 6 T 1\n\n  list 0 k 2 R 1 # pump\nlist 1 k 3\nbytes 01 00\nrest 40 00\n";
+    let Encoded { origins, rest, .. } = encode(text).expect("a text");
     let at = |request: usize, byte| spot(text, origins[request], byte);
     let word = |line, column, word| Some(Spot { line, column, word });
     assert_eq!((at(0, 0), at(0, 10), at(0, 14)), (word(2, 14, 3), word(2, 14, 3), word(2, 18, 5)));
@@ -255,6 +255,11 @@ fn spots_of_bytes() {
     assert_eq!((at(0, 19), at(0, 20)), (word(4, 12, 4), word(4, 16, 6)));
     assert_eq!((at(0, 21), at(0, 25), at(0, 26)), (word(5, 1, 1), word(5, 10, 4), word(5, 11, 5)));
     assert_eq!((at(1, 1), at(1, 2)), (word(6, 10, 3), word(6, 12, 4)));
+    let (origin, from) = rest.expect("a rest");
+    assert_eq!(
+        (from, spot(text, origin, 0), spot(text, origin, 1)),
+        (34, word(7, 6, 2), word(7, 9, 3))
+    );
 }
 
 /// An input that gives a few bytes at a time.
@@ -323,8 +328,8 @@ fn sentences() {
         (vec![], a.into(), "accepted at slot 0 with length 0: no transition; the base is slot 0; offsets id 0: 3, id 1: 2.".into()),
         (vec![a], b.into(), "accepted at slot 6 with length 1: the transition gives slot 6 to id 1; the base is slot 7; offsets id 0: 0, id 1: 2, id 2: 1.".into()),
         (vec![], "request slot 3 T 0".into(), "accepted at slot 3 with length 0: no transition; the base is slot 3; nothing is listed.".into()),
-        (vec![], "bytes".into(), "refused 3, field cut off, missing, unknown, out of order or of wrong length: the record ends where field 01, the slot, 01 00 08 and 8 bytes, is due (line 1, word 2; byte 0 of the record). Mend that field: a request is field 01, field 02, and a field 03 for each id.".into()),
-        (vec![], "bytes 01 00 08 00 00 00 00 00 00 00 00 03".into(), "refused 3, field cut off, missing, unknown, out of order or of wrong length: another field stands where field 02, T, 02 00 01 and 1 byte, is due (line 1, word 13; byte 11 of the record). Mend that field: a request is field 01, field 02, and a field 03 for each id.".into()),
+        (vec![], "bytes".into(), "refused 3, field cut off, missing, unknown, out of order or of wrong length: the record ends, and field 01, the slot, is due: 01 00 08 and 8 bytes (line 1, word 2; byte 0 of the record). Mend that field: a request is field 01, field 02, and a field 03 for each id.".into()),
+        (vec![], "bytes 01 00 08 00 00 00 00 00 00 00 00 03".into(), "refused 3, field cut off, missing, unknown, out of order or of wrong length: no whole field 02, T, stands here: 02 00 01 and 1 byte (line 1, word 13; byte 11 of the record). Mend that field: a request is field 01, field 02, and a field 03 for each id.".into()),
         (vec![], "request slot 281474976710656 T 0".into(), format!("{four} slot 281474976710656 is above 281474976710655 (line 1, word 3; byte 0 of the record). Slots are the controller's count, at most 2^48 - 1.")),
         (vec![], "request slot 0 T 65".into(), format!("{four} T 65 is above 64 (line 1, word 5; byte 11 of the record). Ask with T 64 at most.")),
         (vec![], "request slot 0 T 0\nlist 32 k 9 R 0".into(), format!("{four} id 32 is not 0 to 31 (line 2, word 2; byte 15 of the record). Ask for an id from 0 to 31.")),
@@ -417,44 +422,38 @@ fn the_count_goes_on_in_case_b() {
     let detector = [(64, None), (128, None), (192, Some(0)), (0, None), (64, None)].map(Some);
     assert!(cells(1).eq(detector));
     assert!(cells(2).eq([None, None, Some((0, None)), Some((128, None)), Some((256, None))]));
-    assert_eq!(picture.brought(), [(0, 128), (1, 192)]);
+    assert_eq!(picture.brought, [(0, 128), (1, 192)]);
 }
 
-/// No line of a picture is longer than the terminal, from 1 to 32 partitions and far from slot 0; its head has up to 80 columns.
+/// No line of a picture is longer than the terminal, from 1 to 32 partitions and far from slot 0.
 #[test]
 fn pictures_fit_the_terminal() {
     for count in 1..=32 {
-        for slot in [7, tarnflaw::LAST_SLOT - 300] {
-            for columns in [40, 80, 200] {
-                let texts = [listing(0, count, 8, 2), listing(slot, count, 7, 8)];
-                let terminal =
-                    Terminal { names: Names::from([(0, "ü".repeat(40))]), columns, bold: false };
-                for picture in pictures(&texts, Around { before: 6, after: 8 }) {
-                    let text = terminal.draw(&picture);
-                    let longest = text
-                        .lines()
-                        .filter(|line| columns >= 80 || !is_head(line))
-                        .map(|line| line.chars().count())
-                        .max();
-                    assert!(
-                        longest <= Some(columns),
-                        "{count} partitions, {columns} columns:\n{text}"
-                    );
-                    assert_eq!(text.matches('*').count() - 1, own_slots(&picture), "{text}");
-                }
+        for (slot, columns) in [7, tarnflaw::LAST_SLOT - 300]
+            .into_iter()
+            .flat_map(|slot| [60, 80, 200].map(|columns| (slot, columns)))
+        {
+            let texts = [listing(0, count, 8, 2), listing(slot, count, 7, 8)];
+            let terminal =
+                Terminal { names: Names::from([(0, "ü".repeat(40))]), columns, bold: false };
+            for picture in pictures(&texts, Around { before: 6, after: 8 }) {
+                let text = terminal.draw(&picture);
+                let longest = text.lines().map(|line| line.chars().count()).max();
+                assert!(longest <= Some(columns), "{count} partitions, {columns} columns:\n{text}");
+                assert_eq!(text.matches('*').count() - 1, own_slots(&picture), "{text}");
             }
         }
     }
 }
 
-/// Whether a line of a picture is its title, or tells what the signs mean.
-fn is_head(line: &str) -> bool {
-    ["request ", "figure", "* "].iter().any(|start| line.starts_with(start))
-}
-
 /// The slots of a picture that belong to a partition.
 fn own_slots(picture: &Picture) -> usize {
     picture.slots.iter().filter(|slot| slot.owner.is_some()).count()
+}
+
+/// The rows of a picture, with the heads of its partitions: what stands behind the first empty line.
+fn rows(text: &str) -> Vec<&str> {
+    text.lines().skip_while(|line| !line.is_empty()).skip(1).collect()
 }
 
 /// The rows of two partitions, drawn by hand: 12 columns up to the bound, and a count begun anew at slot 2.
@@ -465,9 +464,8 @@ fn rows_drawn_by_hand() {
     let terminal =
         Terminal { names: Names::from([(1, "detector".to_string())]), columns: 50, bold: false };
     let text = terminal.draw(&drawn[1]);
-    let rows: Vec<&str> = text.lines().skip(6).collect();
     assert_eq!(
-        rows,
+        rows(&text),
         [
             "          id 0                id 1 detector",
             "slot has  R 1: below 256      R 1: below 256",
@@ -505,4 +503,55 @@ fn bars_drawn_by_hand() {
     }
     assert_eq!((text.matches("<g data-").count(), text.matches("<g ").count()), (8, 9));
     assert_eq!(text.matches("</g>").count(), 9);
+}
+
+/// With less room, drawn by hand: the figures of six partitions, whose R a change raises; and of sixteen, in eighths of the larger R.
+#[test]
+fn less_room_drawn_by_hand() {
+    let drawn = |count| {
+        let texts = [listing(0, count, 4, 1), listing(2, count, 4, 2)];
+        let drawn = pictures(&texts, Around { before: 1, after: 2 });
+        Terminal { names: Names::new(), columns: 60, bold: false }.draw(&drawn[1])
+    };
+    let six = [
+        "           id0   id1   id2   id3   id4   id5",
+        "slot has  R1-2  R1-2  R1-2  R1-2  R1-2  R1-2",
+        "   1   .    16    16    16    16    16    16",
+        "-- request slot 2, base 2: the cycle ---------",
+        "   2   .    32    32    32    32    32    32",
+        "   3   .    48    48    48    48    48    48",
+        "",
+    ];
+    assert_eq!(rows(&drawn(6)), six);
+    let sixteen = [
+        "                                        1  1  1  1  1  1",
+        "          0  1  2  3  4  5  6  7  8  9  0  1  2  3  4  5",
+        "slot has  2  2  2  2  2  2  2  2  2  2  2  2  2  2  2  2",
+        "   1  14  0  0  0  0  0  0  0  0  0  0  0  0  0  0  0* 0",
+    ];
+    assert_eq!(rows(&drawn(16))[..4], sixteen);
+}
+
+/// A bound that has no room in full is told by R, and none is cut.
+#[test]
+fn bounds_are_not_cut() {
+    let drawn = pictures(&[listing(0, 5, 4, 2)], Around { before: 0, after: 1 });
+    let text = Terminal { names: Names::new(), columns: 80, bold: false }.draw(&drawn[0]);
+    assert!(text.contains("slot has  R 2           R 2 ") && !text.contains("below 51"), "{text}");
+}
+
+/// What a change brings along is told also of ids that the picture does not draw at the request slot.
+#[test]
+fn what_is_brought_along() {
+    let drawn =
+        pictures(&[listing(0, 2, 2, 1), listing(7, 2, 2, 1)], Around { before: 3, after: 1 });
+    assert_eq!(
+        drawn[0].brought_along(&Names::new()),
+        "No partition brings a shortfall into slot 0."
+    );
+    let names = Names::from([(0, "pump".to_string())]);
+    assert_eq!(
+        drawn[1].brought_along(&names),
+        "The count goes on at slot 7: pump at 192. Begun anew there, each would be at 0."
+    );
 }

@@ -24,11 +24,13 @@ pub struct Origin {
     line: usize,
 }
 
-/// A text that was understood: its frames one behind the other, and where each request stands.
+/// A text that was understood: its frames one behind the other, where each request stands, and where the rest does, if there is one, with the byte
+/// at which it begins among the frames.
 #[derive(Debug, PartialEq, Eq)]
 pub struct Encoded {
     pub frames: Vec<u8>,
     pub origins: Vec<Origin>,
+    pub rest: Option<(Origin, u64)>,
 }
 
 /// A word of a text: its line, its column and the how manieth of its line it is, each from 1.
@@ -109,19 +111,17 @@ pub fn fields_of(slot: u64, limit: u8, listing: &[(u8, u8, Option<u8>)]) -> Vec<
 
 /// The frames that a text means; or its first fault.
 pub fn encode(text: &[u8]) -> Result<Encoded, Fault> {
-    let mut encoded = Encoded { frames: Vec::new(), origins: Vec::new() };
+    let mut encoded = Encoded { frames: Vec::new(), origins: Vec::new(), rest: None };
     let mut record = Record::None;
-    let mut ended = false;
     let mut at = 0;
     for (index, line) in lines(text).enumerate() {
         let origin = Origin { at, line: index + 1 };
         at += line.len() + 1;
         let said = read(line, origin.line)?;
         let fault = |said: &str| Words::of(line, origin.line).fault_at(first(line), said);
-        if ended && said != Line::Blank {
+        if encoded.rest.is_some() && said != Line::Blank {
             return Err(fault("a line behind the rest, and nothing more was expected"));
         }
-        ended |= matches!(said, Line::Rest(_));
         take(said, origin, &mut record, &mut encoded).map_err(fault)?;
         if record.size() > LONGEST_RECORD {
             return Err(fault("a record of over 65535 bytes, and no more was expected"));
@@ -149,6 +149,7 @@ fn take(
         }
         Line::Rest(bytes) => {
             record.finish(&mut to.frames);
+            to.rest = Some((origin, to.frames.len() as u64));
             to.frames.extend(bytes);
             return Ok(());
         }
@@ -173,14 +174,7 @@ fn first(line: &[u8]) -> usize {
 
 /// What a line says; or its first fault.
 fn read(line: &[u8], number: usize) -> Result<Line, Fault> {
-    let mut words = Words::of(line, number);
-    let marks: [&[u8]; 3] = [b"\xef\xbb\xbf", b"\xff\xfe", b"\xfe\xff"];
-    if number == 1 && marks.iter().any(|mark| line.starts_with(mark)) {
-        return Err(words.fault_at(0, "a byte order mark, and a text without one was expected"));
-    }
-    if let Some(at) = line.iter().position(|&byte| byte == b'\r') {
-        return Err(words.fault_at(at, "a carriage return, and line feeds alone were expected"));
-    }
+    let mut words = Words::checked(line, number)?;
     let Some(word) = words.next() else { return Ok(Line::Blank) };
     match word.text {
         b"request" => read_request(&mut words),
@@ -230,7 +224,7 @@ fn read_bytes(words: &mut Words) -> Result<Vec<u8>, Fault> {
     Ok(bytes)
 }
 
-/// The word of a text that says a byte of a request's record. Behind the last byte it is the end of the request's last line.
+/// The word of a text that says a byte of a request's record, or of the rest. Behind the last byte it is the end of the last line.
 pub fn spot(text: &[u8], origin: Origin, byte: usize) -> Option<Spot> {
     let mut passed = 0;
     let mut end = None;
@@ -260,8 +254,8 @@ fn bytes_of_words(said: &Line) -> Vec<usize> {
         Line::Request { .. } => vec![0, 0, 11, 0, 4],
         Line::List { bound: Some(_), .. } => vec![3, 1, 0, 1, 0, 1],
         Line::List { bound: None, .. } => vec![3, 1, 0, 1],
-        Line::Bytes(bytes) => [vec![0], vec![1; bytes.len()]].concat(),
-        Line::Blank | Line::Rest(_) => Vec::new(),
+        Line::Bytes(bytes) | Line::Rest(bytes) => [vec![0], vec![1; bytes.len()]].concat(),
+        Line::Blank => Vec::new(),
     }
 }
 

@@ -37,6 +37,21 @@ impl<'a> Words<'a> {
         Words { line, number, at: 0, end }
     }
 
+    /// The same, of a line that has neither a carriage return nor, as the first, a byte order mark.
+    pub fn checked(line: &'a [u8], number: usize) -> Result<Words<'a>, Fault> {
+        let words = Words::of(line, number);
+        let marks: [&[u8]; 3] = [b"\xef\xbb\xbf", b"\xff\xfe", b"\xfe\xff"];
+        if number == 1 && marks.iter().any(|mark| line.starts_with(mark)) {
+            return Err(words.fault_at(0, "a byte order mark, and a text without one was expected"));
+        }
+        match line.iter().position(|&byte| byte == b'\r') {
+            Some(at) => {
+                Err(words.fault_at(at, "a carriage return, and line feeds alone were expected"))
+            }
+            None => Ok(words),
+        }
+    }
+
     /// The next word, if there is one.
     pub fn next(&mut self) -> Option<Word<'a>> {
         let rest = &self.line[self.at..self.end];
@@ -130,7 +145,7 @@ pub fn column(line: &[u8], at: usize) -> usize {
 pub fn shown(text: &[u8]) -> String {
     const MOST: usize = 40;
     let whole = String::from_utf8_lossy(text);
-    let mut short: String = whole.chars().take(MOST).flat_map(char::escape_default).collect();
+    let mut short: String = whole.chars().take(MOST).flat_map(char::escape_debug).collect();
     if whole.chars().count() > MOST {
         short.push_str("..");
     }
