@@ -1,6 +1,6 @@
 //! Frames as a text, which encodes to the same bytes, whatever they are.
 
-use crate::frames::{HEAD, LONGEST};
+use crate::frames::{length, HEAD, LONGEST};
 use crate::source::FRAME_TAG;
 use std::fmt::Write;
 
@@ -28,8 +28,7 @@ pub fn decode(bytes: &[u8]) -> String {
 /// The content of the frame at a byte, if there is a whole one.
 fn content_at(bytes: &[u8], at: usize) -> Option<&[u8]> {
     let head = bytes.get(at..at + HEAD)?;
-    let size = usize::from(u16::from_be_bytes([head[1], head[2]]));
-    bytes.get(at + HEAD..at + HEAD + size).filter(|_| head[0] == FRAME_TAG)
+    bytes.get(at + HEAD..at + HEAD + length(head)).filter(|_| head[0] == FRAME_TAG)
 }
 
 /// A line of bytes.

@@ -94,7 +94,7 @@ impl<R: Read> Frames<R> {
 }
 
 /// The length that the head of a frame tells.
-fn length(head: &[u8]) -> usize {
+pub fn length(head: &[u8]) -> usize {
     usize::from(u16::from_be_bytes([head[1], head[2]]))
 }
 

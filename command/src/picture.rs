@@ -57,6 +57,12 @@ impl Cell {
 }
 
 impl Lane {
+    /// The id, and what the partition is called.
+    pub fn label(&self, names: &Names) -> String {
+        let name = names.get(&self.id).map_or(String::new(), |name| format!(" {name}"));
+        format!("id {}{name}", self.id)
+    }
+
     /// The bounds R in their order, each once where it goes on; of more than two the first and the last.
     pub fn bounds(&self) -> Vec<u8> {
         let mut bounds: Vec<u8> = self.cells.iter().flatten().map(|cell| cell.bound).collect();
@@ -91,6 +97,18 @@ impl Picture {
     pub fn title(&self) -> String {
         let (ordinal, slot, length) = (self.ordinal, self.request_slot, self.length());
         format!("request {ordinal} accepted: slot {slot}, length {length}, base {}", self.base)
+    }
+
+    /// A slot's number; where the last one has more digits than there is room for, how far it is from the request slot.
+    pub fn slot_label(&self, slot: u64, digits: usize) -> String {
+        let last = self.slots.last().map_or(0, |slot| slot.number);
+        if last.to_string().len() <= digits {
+            return slot.to_string();
+        }
+        match slot.checked_sub(self.request_slot) {
+            Some(behind) => format!("+{behind}"),
+            None => format!("-{}", self.request_slot - slot),
+        }
     }
 
     /// What is said of the shortfalls that partitions bring into the change.

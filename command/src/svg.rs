@@ -143,16 +143,9 @@ impl Placed<'_> {
         self.measures.bars as f64 * f64::from(figure) / f64::from(self.picture.lanes[lane].limit())
     }
 
-    /// A slot's number; where that has no room, how far it is from the request slot.
-    fn slot_number(&self, slot: u64) -> String {
-        let last = self.picture.slots.last().map_or(0, |slot| slot.number);
-        if last.to_string().len() * 7 <= self.measures.slot {
-            return slot.to_string();
-        }
-        match slot.checked_sub(self.picture.request_slot) {
-            Some(behind) => format!("+{behind}"),
-            None => format!("\u{2212}{}", self.picture.request_slot - slot),
-        }
+    /// A slot's number, where it has room.
+    fn slot_label(&self, slot: u64) -> String {
+        self.picture.slot_label(slot, self.measures.slot / LETTER)
     }
 
     /// A path over slots at the height of each one's figure in a lane; it is broken where there is none.
@@ -223,7 +216,7 @@ impl Svg {
         self.canvas.text((self.left - 12, top + OWNERS), 11, Anchor::Before, "has it: id");
         for (index, slot) in picture.slots.iter().enumerate() {
             let middle = placed.left(index) + placed.measures.slot / 2;
-            let number = placed.slot_number(slot.number);
+            let number = placed.slot_label(slot.number);
             let owner = slot.owner.map_or("\u{b7}".to_string(), |id| id.to_string());
             self.canvas.text((middle, top + NUMBERS), 11, Anchor::Around, &number);
             self.canvas.text((middle, top + OWNERS), 11, Anchor::Around, &owner);
@@ -248,7 +241,7 @@ impl Svg {
         let (y, bottom) = (placed.top + MARKS, placed.bottom());
         let down = |x: usize| format!("M{x} {}V{bottom}", y + 5);
         self.canvas.path(&down(from), REQUEST);
-        let (slot_label, base_label) = (placed.slot_number(slot), placed.slot_number(base));
+        let (slot_label, base_label) = (placed.slot_label(slot), placed.slot_label(base));
         if slot == base {
             let both = format!("request slot {slot_label}, base {base_label}");
             self.canvas.text((from, y), 12, Anchor::Around, &both);
@@ -263,10 +256,9 @@ impl Svg {
 
     /// A partition's lane: its name and bounds, its cells, its bound, and the count begun anew.
     fn put_lane(&mut self, placed: &Placed, index: usize, lane: &Lane) {
-        let name = self.names.get(&lane.id).map_or(String::new(), |name| format!(" {name}"));
         let (letters, small) = placed.measures.label;
         let place = (self.left - 12, placed.lane(index) + letters + 4);
-        self.canvas.text(place, letters, Anchor::Before, &format!("id {}{name}", lane.id));
+        self.canvas.text(place, letters, Anchor::Before, &lane.label(&self.names));
         let place = (place.0, place.1 + small + 3);
         self.canvas.text(place, small, Anchor::Before, &lane.below());
         let ground = format!("M{} {}H{}", self.left, placed.ground(index), placed.right());

@@ -1,6 +1,6 @@
 //! A change drawn in characters: a row for each slot, from top to bottom, and a column for each partition.
 
-use crate::picture::{Cell, Lane, Names, Picture, Slot};
+use crate::picture::{Cell, Lane, Names, Picture};
 use crate::words::folded;
 use std::fmt::Write;
 
@@ -60,7 +60,8 @@ impl Terminal {
 
     /// Lays a picture out: as much of each partition as has room beside the others.
     fn layout(&self, picture: &Picture) -> Layout {
-        let slot = picture.slots.iter().map(|&slot| slot_label(picture, slot).len()).max();
+        let slot =
+            picture.slots.iter().map(|slot| picture.slot_label(slot.number, SLOT).len()).max();
         let slot = slot.unwrap_or(0).max(4);
         let room = self.columns.saturating_sub(slot + 6);
         let lanes = picture.lanes.len().max(1);
@@ -77,12 +78,13 @@ impl Terminal {
     fn put_block(&self, text: &mut String, picture: &Picture, layout: &Layout, lanes: &[Lane]) {
         self.put_heads(text, layout, lanes);
         let width = layout.slot + 6 + layout.lane * lanes.len();
-        for (index, &slot) in picture.slots.iter().enumerate() {
-            if let Some(mark) = mark(picture, slot) {
+        for (index, slot) in picture.slots.iter().enumerate() {
+            let label = picture.slot_label(slot.number, SLOT);
+            if let Some(mark) = mark(picture, slot.number, &label) {
                 let _ = writeln!(text, "{:-<width$}", format!("-- {mark} "));
             }
             let owner = slot.owner.map_or(".".to_string(), |id| id.to_string());
-            let mut row = format!("{:>1$} {owner:>3}  ", slot_label(picture, slot), layout.slot);
+            let mut row = format!("{label:>0$} {owner:>3}  ", layout.slot);
             for lane in lanes {
                 row.push_str(&self.cell(lane, lane.cells[index], layout));
             }
@@ -111,8 +113,7 @@ impl Terminal {
         let bounds = || lane.bounds().iter().map(u8::to_string).collect::<Vec<_>>().join("-");
         match layout.size {
             Size::Bar => {
-                let name = self.names.get(&id).map_or(String::new(), |name| format!(" {name}"));
-                let named = format!("id {id}{name}").chars().take(layout.lane - 1).collect();
+                let named = lane.label(&self.names).chars().take(layout.lane - 1).collect();
                 let below = Some(lane.below()).filter(|below| below.len() < layout.lane);
                 vec![named, below.unwrap_or_else(|| format!("R {}", bounds()))]
             }
@@ -190,24 +191,11 @@ fn legend(size: Size) -> &'static [&'static str] {
 }
 
 /// What begins in a slot.
-fn mark(picture: &Picture, slot: Slot) -> Option<String> {
-    let label = slot_label(picture, slot);
-    match (slot.number == picture.request_slot, slot.number == picture.base) {
+fn mark(picture: &Picture, slot: u64, label: &str) -> Option<String> {
+    match (slot == picture.request_slot, slot == picture.base) {
         (true, true) => Some(format!("request slot {label}, base {label}: the cycle")),
         (true, false) => Some(format!("request slot {label}: the transition")),
         (false, true) => Some(format!("base {label}: the cycle")),
         (false, false) => None,
-    }
-}
-
-/// A slot's number, or where that is long, how far it is from the request slot.
-fn slot_label(picture: &Picture, slot: Slot) -> String {
-    let last = picture.slots.last().map_or(0, |slot| slot.number);
-    if last.to_string().len() <= SLOT {
-        return slot.number.to_string();
-    }
-    match slot.number.checked_sub(picture.request_slot) {
-        Some(behind) => format!("+{behind}"),
-        None => format!("-{}", picture.request_slot - slot.number),
     }
 }

@@ -37,7 +37,6 @@ use std::ops::Range;
 
 /// The figures of each section.
 pub fn add_to(figures: &mut Figures) {
-    figures.whole.push(String::from("Dictionary of figures"));
     add_head(figures);
     add_windows(figures);
     add_promised(figures);

@@ -51,7 +51,6 @@ struct Prose {
 /// A heading and what stands under it, up to the next heading.
 struct Section {
     document: String,
-    title: String,
     heading: String,
     prose: Prose,
     fences: Vec<Fence>,
@@ -199,14 +198,12 @@ impl Reader {
         }
     }
 
-    /// A heading starts a section; the first one is the document's title.
+    /// A heading starts a section.
     fn start_section(&mut self, number: usize, heading: &str) {
-        let title = self.sections.get(1).map_or(heading, |first| &first.heading);
         let mut prose = Prose::default();
         prose.add(number, heading);
         self.sections.push(Section {
             document: self.document.clone(),
-            title: String::from(title),
             heading: String::from(heading),
             prose,
             fences: Vec::new(),
@@ -260,19 +257,8 @@ impl Section {
         let mut faults: Vec<Fault> =
             self.fences.iter().filter_map(|fence| self.fence_fault(fence, figures)).collect();
         faults.extend(self.rows.iter().filter_map(|row| self.row_fault(row, figures)));
-        if self.is_worked(figures) {
-            faults.extend(self.prose_faults(figures));
-        }
+        faults.extend(self.prose_faults(figures));
         faults
-    }
-
-    /// Whether every digit of the section has to be one that the figures give.
-    fn is_worked(&self, figures: &Figures) -> bool {
-        figures.whole.contains(&self.title)
-            || figures.phrases.iter().any(|phrase| phrase.section == self.heading)
-            || self.fences.iter().any(|fence| fence.name.is_some())
-            || !self.rows.is_empty()
-            || !self.given.is_empty()
     }
 
     /// A block with a marker is the block of that name, byte for byte.

@@ -27,8 +27,6 @@ pub struct Phrase {
 /// All that the documents show, the phrases of a section in their order.
 #[derive(Default)]
 pub struct Figures {
-    /// The titles of the documents all of whose sections are held against the figures.
-    pub whole: Vec<String>,
     pub blocks: Vec<Block>,
     pub cells: Vec<Cell>,
     pub phrases: Vec<Phrase>,

@@ -754,10 +754,9 @@ fn numbers_in_words() {
     assert_eq!(["3", "3 and 4", "3, 4 and 5"], [3..4, 3..5, 3..6].map(list_and)[..]);
 }
 
-/// Some figures: a block, an example and a phrase, for one document that is worked as a whole.
+/// Some figures: a block, an example and a phrase, for one document.
 fn some_figures() -> Figures {
     let mut figures = Figures::default();
-    figures.whole.push(String::from("Title"));
     figures.block("slots of A", String::from("slot  0 1\nowner . 1"));
     figures.cell("Title", "base", 7);
     figures.phrase("Part", "At slot 6 it is 128");

@@ -16,7 +16,6 @@ use crate::worked::{
 
 /// The figures of both documents.
 pub fn add_to(figures: &mut Figures) {
-    figures.whole.push(String::from("One request followed"));
     figures.block("lines of A and B", lines().join("\n"));
     figures.block("slots of A", slots_block(&run_a(), 7));
     figures.block("slots of A and B", slots_block(&run_b(), LAST_SHOWN));
