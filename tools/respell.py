@@ -51,7 +51,7 @@ NAME = r"[^\s(){}\[\].,;:\"`|→λ]+"
 DECLARED = re.compile(
     rf"\s*(?:(?:unfoldable|abbrev) )?(?:pub )?(?:data |record )?({NAME}(?: {NAME})*)\s+(?:\([^)]*\)\s*|\{{[^}}]*\}}\s*)*:(?: |$)"
 )
-INNER = ("Proof.antt", "Answers.antt", "Given.antt")
+INNER = re.compile(r"crates/\w+/proofs/.+/(Proof|Answers|Given)\.antt$")
 
 
 def spelled(name):
@@ -89,7 +89,7 @@ def main():
     files = sorted(glob.glob("crates/*/specs/**/*.antt", recursive=True) + glob.glob("crates/*/proofs/**/*.antt", recursive=True))
     outer, parts = set(), set()
     for path in files:
-        if os.path.basename(path) not in INNER:
+        if not INNER.match(path):
             names, some = declared(path)
             outer |= names
             parts |= some
@@ -146,7 +146,7 @@ def main():
                 f.write(new)
 
     for path in files:
-        inner = os.path.basename(path) in INNER
+        inner = INNER.match(path)
         own = frozenset(declared(path)[0]) if inner else frozenset()
         change(path, lambda t: code(t, "--", own=own, dotted=parts if inner else None))
     for path in sorted(glob.glob("crates/*/src/**/*.rt", recursive=True)):

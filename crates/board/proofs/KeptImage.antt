@@ -11,7 +11,7 @@ use Rattle.board.proofs.BoardLaws.{after_accepted, after_refused, answer_held}
 use Rattle.board.proofs.ReadBack.{read_back}
 use Rattle.board.proofs.StoreLaws.{image_length}
 use Rattle.board.specs.Image.{Fits, image_after, image_answer, image_of, kept_image}
-use Rattle.change.proofs.Answers.{accepted-continues, accepted-owners, accepted-starts}
+use Rattle.change.proofs.Answers.{accepted_continues, accepted_owners, accepted_starts}
 use Rattle.change.proofs.Histories.{sent_accepted, sent_refused}
 use Rattle.change.specs.Change.{answer}
 use Rattle.change.specs.declared.Answer.{Answer}
@@ -51,7 +51,7 @@ sound_fits t s o n m = record {
 module _ (t : Timetable) (s : List ℕ) (area : ℕ) where
   -- The timetable of an accepted request fits.
   pub accepted_fits : (answer t s area).number ≡ ACCEPTED → Fits (answer t s area).timetable
-  accepted_fits e = let c = accepted-continues t s area e in sound_fits _ c.sound (accepted-owners t s area e) c.shape (accepted-starts t s area e)
+  accepted_fits e = let c = accepted_continues t s area e in sound_fits _ c.sound (accepted_owners t s area e) c.shape (accepted_starts t s area e)
 
 -- The timetable in force fits.
 present_fits : (qs : List Sent) → Fits (present (history_of qs))

@@ -50,25 +50,25 @@ admitted t s area (passed _ (passed _ (sound a) (passed _ (enough b) (passed _ (
     record { sound = sound_from t a; room = b; range = read_in_range s c; later = d; fine = g }
 
 -- The plan from which its lengths are searched is fit.
-pub admitted-fit : (t : Timetable) (r : Request) (area : ℕ) → Admitted t r area → Fit 0 (start_plan t r)
-admitted-fit t r area p = start_fit t r p.sound p.later p.range p.fine
+pub admitted_fit : (t : Timetable) (r : Request) (area : ℕ) → Admitted t r area → Fit 0 (start_plan t r)
+admitted_fit t r area p = start_fit t r p.sound p.later p.range p.fine
 
 -- The answer with a schedule: length k, and the plan placed.
-abbrev pub acceptedAs : Timetable → Request → ℕ → Plan → Answer
-acceptedAs t r k plan = record { number = ACCEPTED; place = 0; tries = suc k; timetable = new_timetable r (starts_of t r) k plan }
+abbrev pub accepted_as : Timetable → Request → ℕ → Plan → Answer
+accepted_as t r k plan = record { number = ACCEPTED; place = 0; tries = suc k; timetable = new_timetable r (starts_of t r) k plan }
 
 -- The answer for want of a schedule: its number, and the length at which the search ended.
-abbrev pub refusedAs : Timetable → ℕ → ℕ → Answer
-refusedAs t number n = record { number = number; place = n; tries = suc n; timetable = t }
+abbrev pub refused_as : Timetable → ℕ → ℕ → Answer
+refused_as t number n = record { number = number; place = n; tries = suc n; timetable = t }
 
 -- An accepted answer has a record, and no other has.
-pub record-accepted : (a : Answer) → a.number ≡ ACCEPTED → record_of a ≡ answer_record a.timetable.length a.timetable.owners a.timetable.entries
+pub record_accepted : (a : Answer) → a.number ≡ ACCEPTED → record_of a ≡ answer_record a.timetable.length a.timetable.owners a.timetable.entries
 unfolding record_of
-record-accepted a e = rw (eq-eqb _ _ e)
+record_accepted a e = rw (eq-eqb _ _ e)
 
-pub record-none : (a : Answer) → a.number ≢ ACCEPTED → record_of a ≡ []
+pub record_none : (a : Answer) → a.number ≢ ACCEPTED → record_of a ≡ []
 unfolding record_of
-record-none a n = rw (ne_eqb _ _ n)
+record_none a n = rw (ne_eqb _ _ n)
 
 -- What the request bytes s get.
 pub data Gets (t : Timetable) (s : List ℕ) (area : ℕ) : Answer → Type 0 where
@@ -76,13 +76,13 @@ pub data Gets (t : Timetable) (s : List ℕ) (area : ℕ) : Answer → Type 0 wh
   accepted : verdict_before t (read_request s) area ≡ Passed → Admitted t (read_request s).request area
       → (k : ℕ) → k ≤ (read_request s).request.limit → PassedFirst k 0 (start_plan t (read_request s).request)
       → (p : Plan) → reach (start_plan t (read_request s).request) k ≡ some p → (ps : List Place) → placement p.entries ≡ some ps
-      → Gets t s area (acceptedAs t (read_request s).request k (placed p ps))
+      → Gets t s area (accepted_as t (read_request s).request k (placed p ps))
   no_slot : verdict_before t (read_request s) area ≡ Passed → Admitted t (read_request s).request area
       → (k : ℕ) → k < (read_request s).request.limit → PassedFirst (suc k) 0 (start_plan t (read_request s).request)
-      → (p : Plan) → reach (start_plan t (read_request s).request) k ≡ some p → longer k p ≡ none → Gets t s area (refusedAs t SLOT_MISSED k)
+      → (p : Plan) → reach (start_plan t (read_request s).request) k ≡ some p → longer k p ≡ none → Gets t s area (refused_as t SLOT_MISSED k)
   no_length : verdict_before t (read_request s) area ≡ Passed → Admitted t (read_request s).request area
       → PassedFirst (suc (read_request s).request.limit) 0 (start_plan t (read_request s).request)
-      → Gets t s area (refusedAs t LENGTHS_EXHAUSTED (read_request s).request.limit)
+      → Gets t s area (refused_as t LENGTHS_EXHAUSTED (read_request s).request.limit)
 
 module _ (t : Timetable) (s : List ℕ) (area : ℕ) where
   r : Request
@@ -97,13 +97,13 @@ module _ (t : Timetable) (s : List ℕ) (area : ℕ) where
   searched e p x (exhausted b q i) = rw (i, zero-add r.limit) (no_length e p b)
 
   -- A refusal before the search has a number from 1 to 8.
-  pub refusal-number : (x : Refusal) → StagesSay t (read_request s) area (Refused x) → (0 < x.number) × (x.number < SLOT_MISSED)
-  refusal-number x (stops _ (stops _ (not_sound a))) = omega arith
-  refusal-number x (stops _ (passed _ _ (stops _ (small_area a)))) = omega arith
-  refusal-number x (stops _ (passed _ _ (passed _ _ (stops _ (bad_field q f))))) = let k = refused_in_range s q f in omega (arith, k.low, k.high)
-  refusal-number x (stops _ (passed _ _ (passed _ _ (passed _ _ (too_early a))))) = omega arith
-  refusal-number x (passed _ _ (stops _ (overfull i k f g))) = omega arith
-  refusal-number x (passed _ _ (passed _ _ (behind i k f g))) = omega arith
+  pub refusal_number : (x : Refusal) → StagesSay t (read_request s) area (Refused x) → (0 < x.number) × (x.number < SLOT_MISSED)
+  refusal_number x (stops _ (stops _ (not_sound a))) = omega arith
+  refusal_number x (stops _ (passed _ _ (stops _ (small_area a)))) = omega arith
+  refusal_number x (stops _ (passed _ _ (passed _ _ (stops _ (bad_field q f))))) = let k = refused_in_range s q f in omega (arith, k.low, k.high)
+  refusal_number x (stops _ (passed _ _ (passed _ _ (passed _ _ (too_early a))))) = omega arith
+  refusal_number x (passed _ _ (stops _ (overfull i k f g))) = omega arith
+  refusal_number x (passed _ _ (passed _ _ (behind i k f g))) = omega arith
 
   -- What the stages say of a verdict that they gave.
   pub said : (v : Verdict) → verdict_before t (read_request s) area ≡ v → StagesSay t (read_request s) area v
@@ -115,18 +115,18 @@ module _ (t : Timetable) (s : List ℕ) (area : ℕ) where
   gets = at (verdict_before t (read_request s) area) refl
     where
       at : (v : Verdict) → verdict_before t (read_request s) area ≡ v → Gets t s area (answer t s area)
-      at (Refused x) e = let k = refusal-number x (said (Refused x) e) in rw (e, answer_to) (refused x e k.0 k.1)
+      at (Refused x) e = let k = refusal_number x (said (Refused x) e) in rw (e, answer_to) (refused x e k.0 k.1)
       at Passed e =
           rw (e, answer_to)
           (searched e (admitted t s area (said Passed e)) _ (search_ends (read_request s).request.limit 0 (start_plan t (read_request s).request)))
 
   -- What a new timetable has, at the length found and with the plan placed, that of an accepted request has.
-  accepted-has : (P : Timetable → Type 0)
+  accepted_has : (P : Timetable → Type 0)
       → ((k : ℕ) → k ≤ r.limit → PassedFirst k 0 (start_plan t r) → (p : Plan) → reach (start_plan t r) k ≡ some p
       → (ps : List Place) → placement p.entries ≡ some ps → Admitted t r area → P (new_timetable r (starts_of t r) k (placed p ps)))
       → (answer t s area).number ≡ ACCEPTED → P (answer t s area).timetable
   unfolding r
-  accepted-has P has = at (answer t s area) gets
+  accepted_has P has = at (answer t s area) gets
     where
       at : (a : Answer) → Gets t s area a → a.number ≡ ACCEPTED → P a.timetable
       at a (refused q e l h) z = absurd (omega arith)
@@ -135,16 +135,16 @@ module _ (t : Timetable) (s : List ℕ) (area : ℕ) where
       at a (no_length e p b) z = absurd (omega arith)
 
   -- It continues the one before.
-  pub accepted-continues : (answer t s area).number ≡ ACCEPTED → Continues t (answer t s area).timetable
-  accepted-continues = accepted-has (Continues t) (λ k l b q h ps f p. found_continues t r p.sound p.range p.later p.fine k l b q h ps f)
+  pub accepted_continues : (answer t s area).number ≡ ACCEPTED → Continues t (answer t s area).timetable
+  accepted_continues = accepted_has (Continues t) (λ k l b q h ps f p. found_continues t r p.sound p.range p.later p.fine k l b q h ps f)
 
   -- It has 64 owners.
-  pub accepted-owners : (answer t s area).number ≡ ACCEPTED → length (answer t s area).timetable.owners ≡ LONGEST
+  pub accepted_owners : (answer t s area).number ≡ ACCEPTED → length (answer t s area).timetable.owners ≡ LONGEST
   unfolding placed
-  accepted-owners =
-      accepted-has (λ (x : Timetable). length x.owners ≡ LONGEST)
-      (λ k l b q h ps f p. (reach_fit k 0 (start_plan t r) q (admitted-fit t r area p) (omega (arith, p.range.limit)) h).places)
+  accepted_owners =
+      accepted_has (λ (x : Timetable). length x.owners ≡ LONGEST)
+      (λ k l b q h ps f p. (reach_fit k 0 (start_plan t r) q (admitted_fit t r area p) (omega (arith, p.range.limit)) h).places)
 
   -- It has 32 starts.
-  pub accepted-starts : (answer t s area).number ≡ ACCEPTED → length (answer t s area).timetable.starts ≡ IDS
-  accepted-starts = accepted-has (λ (x : Timetable). length x.starts ≡ IDS) (λ k l b q h ps f p. start_count t r)
+  pub accepted_starts : (answer t s area).number ≡ ACCEPTED → length (answer t s area).timetable.starts ≡ IDS
+  accepted_starts = accepted_has (λ (x : Timetable). length x.starts ≡ IDS) (λ k l b q h ps f p. start_count t r)

@@ -7,7 +7,7 @@ use lib.ListN.{length, replicate}
 use native.Mathlib.Decide.{ℕ_discrete}
 use native.Mathlib.Omega.{arith}
 use Prim.Native.Nat.{ℕ, ◌+◌, ◌-◌, ◌≤◌, ◌<◌}
-use Rattle.change.proofs.Answers.{accepted-owners, record-accepted, record-none}
+use Rattle.change.proofs.Answers.{accepted_owners, record_accepted, record_none}
 use Rattle.change.proofs.EnterLaws.{start_entered}
 use Rattle.change.proofs.Passing.{goes_into}
 use Rattle.change.specs.Change.{answer, number_of, place_of, timetable_of, start_plan, starts_of, answer_of, record_of, refuse, shortfalls_of}
@@ -123,11 +123,11 @@ module _ (d : Decided) (owners periods : List ℕ) where
       at : Dec (d.number ≡ ACCEPTED) → decided_record d owners periods ≡ record_of a
       at (yes z) =
           sym
-          (record-accepted a (sym h.number ∙ z)
+          (record_accepted a (sym h.number ∙ z)
           ∙ ap (λ (x : Timetable). answer_record x.length x.owners x.entries) (h.in_force_lem (sym h.number ∙ z))
           ∙ answer_columns d.length owners periods d.offsets bounds shortfalls
           ∙ decided_accepted z)
-      at (no n) = sym (decided_refused n) ∙ sym (record-none a (λ z. n (h.number ∙ z)))
+      at (no n) = sym (decided_refused n) ∙ sym (record_none a (λ z. n (h.number ∙ z)))
 
 -- It goes into the area for which the request was decided.
 pub record_fits : (t : Timetable) (s : List ℕ) (area : ℕ) (d : Decided) (owners periods bounds shortfalls starts : List ℕ)
@@ -136,7 +136,7 @@ record_fits t s area d owners periods bounds shortfalls starts h a =
     let z = sym h.number ∙ a in
     let u = h.in_force_lem z in
     let g = goes_into t s area z in
-    (g.0, omega (arith, g.1, ap (λ (x : Timetable). x.length) u), sym (ap (λ (x : Timetable). length x.owners) u) ∙ accepted-owners t s area z)
+    (g.0, omega (arith, g.1, ap (λ (x : Timetable). x.length) u), sym (ap (λ (x : Timetable). length x.owners) u) ∙ accepted_owners t s area z)
 
 -- ---- the timetable in force
 

@@ -9,12 +9,12 @@ use mathlib.Core.Path.{◌≡◌, refl, sym, ap, ◌∙◌, subst}
 use native.Mathlib.Decide.{ℕ_discrete}
 use native.Mathlib.Omega.{arith}
 use Prim.Native.Nat.{ℕ, suc, ◌-◌, ◌≤◌, ◌<◌}
-use Rattle.change.proofs.Answers.{Gets, Admitted, admitted-fit, accepted, acceptedAs, gets, no_length, no_slot, record-none, refused, said}
+use Rattle.change.proofs.Answers.{Gets, Admitted, admitted_fit, accepted, accepted_as, gets, no_length, no_slot, record_none, refused, said}
 use Rattle.change.proofs.StageSteps.{given_bound, listed_bound, new_bound, short_bound}
 use Rattle.change.proofs.Start.{length_start, start_at_lem, start_count, start_of_lem}
 use Rattle.change.specs.Change.{answer, area_after, outcome, outcome_of, record_of, refuse, start_plan, written}
 use Rattle.change.specs.declared.Answer.{Answer}
-use Rattle.change.specs.Given.{AsksBound, in-full, as-listed, not_listed, Enters, AtRequest, ByRules, EndsAt, missed, exhausted, Wanting, Gives, early, schedule, wanting}
+use Rattle.change.specs.Given.{AsksBound, in_full, as_listed, not_listed, Enters, AtRequest, ByRules, EndsAt, missed, exhausted, Wanting, Gives, early, schedule, wanting}
 use Rattle.change.specs.Stages.{asked_bound, entering, start_entries}
 use Rattle.numbers.specs.declared.Verdict.TheVariants.{Passed, Refused}
 use Rattle.numbers.specs.Numbers.{SLOT_MISSED, LENGTHS_EXHAUSTED}
@@ -50,9 +50,9 @@ pub asks_bound : (old : Entry) (a : Ask) → AsksBound old a.bound (asked_bound 
 asks_bound old a = at (ℕ_discrete a.bound 0) (is_listed old) refl
   where
     at : Dec (a.bound ≡ 0) → (b : Bool) → is_listed old ≡ b → AsksBound old a.bound (asked_bound old a)
-    at (yes e) true l = as-listed e l (sym (listed_bound old l ∙ short_bound old a e))
+    at (yes e) true l = as_listed e l (sym (listed_bound old l ∙ short_bound old a e))
     at (yes e) false l = not_listed e l (sym (new_bound old l ∙ short_bound old a e))
-    at (no e) b l = in-full (omega arith) (sym (given_bound old a e))
+    at (no e) b l = in_full (omega arith) (sym (given_bound old a e))
 
 -- The entries at the request slot are those of rule 1.
 pub at_request : (t : Timetable) (q : Request) → AtRequest t q (start_entries t q.slot q.asks)
@@ -75,7 +75,7 @@ module _ (t : Timetable) (q : Request) (area : ℕ) (pass : Admitted t q area) w
   plan = start_plan t q
 
   fit : Fit 0 plan
-  fit = admitted-fit t q area pass
+  fit = admitted_fit t q area pass
 
   module _ (n : ℕ) (small : n ≤ LONGEST) (x : Plan) (here : reach plan n ≡ some x) where
     fit_here : Fit n x
@@ -96,7 +96,7 @@ module _ (t : Timetable) (q : Request) (area : ℕ) (pass : Admitted t q area) w
 
     module _ (ps : List Place) (rule4 : placement x.entries ≡ some ps) where
       -- The timetable found is by the rules.
-      by_rules : n ≤ q.limit → PassedFirst n 0 plan → ByRules q plan.entries (acceptedAs t q n (placed x ps)).timetable
+      by_rules : n ≤ q.limit → PassedFirst n 0 plan → ByRules q plan.entries (accepted_as t q n (placed x ps)).timetable
       unfolding placed start_plan
       by_rules l b = record {
         slot = refl;
@@ -161,7 +161,7 @@ unfolding outcome area_after record_of start_plan placed
 gives t s area = at (answer t s (length area)) (gets t s (length area))
   where
     at : (a : Answer) → Gets t s (length area) a → Gives t s area (outcome_of a) (written a area)
-    at a (refused x e l h) = rw (record-none (refuse t x) (λ z. omega (arith, z))) (early (read_request s) (request_read s) x (said t s (length area) (Refused x) e))
+    at a (refused x e l h) = rw (record_none (refuse t x) (λ z. omega (arith, z))) (early (read_request s) (request_read s) x (said t s (length area) (Refused x) e))
     at a (accepted e p k l b x h ps f) =
         let small : k ≤ LONGEST = omega (arith, p.range.limit) in
         schedule (read_request s) (request_read s) (said t s (length area) Passed e) (outcome_of a) (written a area)

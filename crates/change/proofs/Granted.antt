@@ -7,7 +7,7 @@ use mathlib.Core.Option.{Option, none, some}
 use mathlib.Core.Path.{◌≡◌, refl, sym, ap, ◌∙◌, subst}
 use native.Mathlib.Omega.{arith}
 use Prim.Native.Nat.{ℕ, zero, suc, ◌+◌, ◌-◌, ◌*◌, ◌≤◌, ◌<◌}
-use Rattle.change.proofs.Answers.{acceptedAs, admitted, admitted-fit}
+use Rattle.change.proofs.Answers.{accepted_as, admitted, admitted_fit}
 use Rattle.change.proofs.AsBefore.{short_behind}
 use Rattle.change.proofs.GivenLaws.{at_request}
 use Rattle.change.proofs.Stages.{stages}
@@ -137,7 +137,7 @@ module _ (t : Timetable) (s : List ℕ) (area : ℕ) (z : is_sound t ≡ true) (
 
   -- The entries at the request slot are in range, one for each id.
   there_fit : Fit 0 (start_plan t asked)
-  there_fit = admitted-fit t asked area (admitted t s area there_passes)
+  there_fit = admitted_fit t asked area (admitted t s area there_passes)
 
   -- Rule 4 finds a placement from there.
   there_placed : (ps : List Place) × (placement (start_plan t asked).entries ≡ some ps)
@@ -151,7 +151,7 @@ module _ (t : Timetable) (s : List ℕ) (area : ℕ) (z : is_sound t ≡ true) (
 
   module _ (ps : List Place) (rule4 : placement (start_plan t asked).entries ≡ some ps) where
     -- So it is accepted with length 0,
-    there_answer : answer t s area ≡ acceptedAs t asked 0 (placed (start_plan t asked) ps)
+    there_answer : answer t s area ≡ accepted_as t asked 0 (placed (start_plan t asked) ps)
     unfolding answer answer_to search_of answer_of number_of place_of timetable_of ended
     there_answer =
         ap (λ (v : Verdict). elim v [ Passed ↦ answer_of t asked (search_of t asked) | Refused r ↦ refuse t r ]) there_verdict

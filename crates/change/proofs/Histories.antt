@@ -6,7 +6,7 @@ use mathlib.Core.Bool.{Bool, true, false, cond}
 use mathlib.Core.List.{List, [], ◌∷◌}
 use mathlib.Core.Logic.{◌≢◌}
 use mathlib.Core.Path.{◌≡◌, refl}
-use Rattle.change.proofs.Answers.{accepted-continues}
+use Rattle.change.proofs.Answers.{accepted_continues}
 use Rattle.change.specs.Change.{answer}
 use Rattle.change.specs.Controller.{Sent, send, history_of}
 use Rattle.numbers.specs.Numbers.{ACCEPTED}
@@ -37,5 +37,5 @@ history_valid (q ∷ qs) =
 
     at : (b : Bool) → eqb (answer (present h) q.bytes q.area).number ACCEPTED ≡ b → Valid h
         → Valid (cond b ((answer (present h) q.bytes q.area).timetable ∷ h) h)
-    at true e v = (accepted-continues (present h) q.bytes q.area (eqb-true _ _ e), v)
+    at true e v = (accepted_continues (present h) q.bytes q.area (eqb-true _ _ e), v)
     at false e v = v

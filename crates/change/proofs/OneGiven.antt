@@ -8,12 +8,12 @@ use mathlib.Core.Path.{◌≡◌, refl, sym, ap, ap₂, ◌∙◌, subst}
 use native.Mathlib.Decide.{ℕ_discrete, dec_lt}
 use native.Mathlib.Omega.{arith}
 use Prim.Native.Nat.{ℕ, suc, ◌+◌, ◌≤◌, ◌<◌}
-use Rattle.change.proofs.Answers.{Admitted, admitted, admitted-fit}
+use Rattle.change.proofs.Answers.{Admitted, admitted, admitted_fit}
 use Rattle.change.proofs.GivenLaws.{at_request}
 use Rattle.change.proofs.Stages.{stages}
 use Rattle.change.specs.Change.{start_plan}
 use Rattle.change.specs.declared.Outcome.{Outcome}
-use Rattle.change.specs.Given.{AsksBound, in-full, as-listed, not_listed, Enters, AtRequest, ByRules, Accepted, EndsAt, missed, exhausted, Wanting, Gives, early, schedule, wanting, refusedWith}
+use Rattle.change.specs.Given.{AsksBound, in_full, as_listed, not_listed, Enters, AtRequest, ByRules, Accepted, EndsAt, missed, exhausted, Wanting, Gives, early, schedule, wanting, refused_with}
 use Rattle.change.specs.Refused.{StagesSay}
 use Rattle.change.specs.Stages.{start_entries, verdict_before}
 use Rattle.numbers.proofs.ChainLaws.{not_passed}
@@ -44,14 +44,14 @@ use Rattle.transition.specs.RuleThree.{ByRuleThree, walked_to}
 
 -- One bound is asked.
 pub bound_one : (old : Entry) (a b c : ℕ) → AsksBound old a b → AsksBound old a c → b ≡ c
-bound_one old a b c (in-full _ p) (in-full _ q) = p ∙ sym q
-bound_one old a b c (in-full h _) (as-listed z _ _) = absurd (omega arith)
-bound_one old a b c (in-full h _) (not_listed z _ _) = absurd (omega arith)
-bound_one old a b c (as-listed z _ _) (in-full h _) = absurd (omega arith)
-bound_one old a b c (as-listed _ _ p) (as-listed _ _ q) = p ∙ sym q
-bound_one old a b c (as-listed _ l _) (not_listed _ m _) = absurd (true_false l m)
-bound_one old a b c (not_listed z _ _) (in-full h _) = absurd (omega arith)
-bound_one old a b c (not_listed _ m _) (as-listed _ l _) = absurd (true_false l m)
+bound_one old a b c (in_full _ p) (in_full _ q) = p ∙ sym q
+bound_one old a b c (in_full h _) (as_listed z _ _) = absurd (omega arith)
+bound_one old a b c (in_full h _) (not_listed z _ _) = absurd (omega arith)
+bound_one old a b c (as_listed z _ _) (in_full h _) = absurd (omega arith)
+bound_one old a b c (as_listed _ _ p) (as_listed _ _ q) = p ∙ sym q
+bound_one old a b c (as_listed _ l _) (not_listed _ m _) = absurd (true_false l m)
+bound_one old a b c (not_listed z _ _) (in_full h _) = absurd (omega arith)
+bound_one old a b c (not_listed _ m _) (as_listed _ l _) = absurd (true_false l m)
 bound_one old a b c (not_listed _ _ p) (not_listed _ _ q) = p ∙ sym q
 
 -- An id enters with one entry.
@@ -182,7 +182,7 @@ module _ (t : Timetable) (q : Request) (size : ℕ) (pass : Admitted t q size) w
   -- The entries at the request slot are in range.
   start_in_range_lem : (es : List Entry) → AtRequest t q es → Ranged es
   unfolding start_plan
-  start_in_range_lem es s = subst Ranged (start_one t q (start_entries t q.slot q.asks) es (at_request t q) s) (admitted-fit t q size pass).ranged
+  start_in_range_lem es s = subst Ranged (start_one t q (start_entries t q.slot q.asks) es (at_request t q) s) (admitted_fit t q size pass).ranged
 
   -- Two acceptances are one.
   accepted_one : (before : List ℕ) (r r' : Outcome) (out out' : List ℕ) → Accepted t q before r out → Accepted t q before r' out' → (r ≡ r') × (out ≡ out')
@@ -257,7 +257,7 @@ module _ (t : Timetable) (s area : List ℕ) where
       let k = judged (Refused x) a d p in
       let l = judged (Refused y) b e q in
       let z : x ≡ y = cc in
-      (ap (λ (w : Refusal). refusedWith t w.number w.place 0) z, refl)
+      (ap (λ (w : Refusal). refused_with t w.number w.place 0) z, refl)
   gives_one r r' out out' (early a d x p) (schedule b e q u v w) = absurd (not_early x a b d e p q)
   gives_one r r' out out' (early a d x p) (wanting b e q n k w) = absurd (not_early x a b d e p q)
   gives_one r r' out out' (schedule a d p u v w) (early b e y q) = absurd (not_early y b a e d q p)
@@ -285,4 +285,4 @@ module _ (t : Timetable) (s area : List ℕ) where
       let j = as_read (λ z. Wanting t z.request m l) s b e y in
       let z = wanting_one t (read_request s).request (length area) g n k m l i j in
       let w = number_one (read_request s).request.limit n m _ _ k l z i.ends j.ends in
-      (ap₂ (λ (number n : ℕ). refusedWith t number n (suc n)) w z, refl)
+      (ap₂ (λ (number n : ℕ). refused_with t number n (suc n)) w z, refl)

@@ -5,7 +5,7 @@ use mathlib.Core.Path.{◌≡◌, refl, sym, ap, ◌∙◌, subst}
 use native.Mathlib.Decide.{ℕ_discrete}
 use native.Mathlib.Omega.{arith}
 use Prim.Native.Nat.{ℕ, ◌≤◌, ◌<◌}
-use Rattle.change.proofs.Answers.{Admitted, accepted-continues, admitted, admitted-fit, Gets, refused, accepted, no_slot, no_length, gets, refusal-number, said}
+use Rattle.change.proofs.Answers.{Admitted, accepted_continues, admitted, admitted_fit, Gets, refused, accepted, no_slot, no_length, gets, refusal_number, said}
 use Rattle.change.proofs.Stages.{first_tells}
 use Rattle.change.specs.Change.{start_plan, search_of, answer_of, refuse, answer_to, answer}
 use Rattle.change.specs.Columns.{FoundIn, HandsBack}
@@ -80,7 +80,7 @@ pub stays_sound : (t : Timetable) (s : List ℕ) (area : ℕ) → is_sound t ≡
 stays_sound t s area h = at (ℕ_discrete (answer t s area).number ACCEPTED)
   where
     at : Dec ((answer t s area).number ≡ ACCEPTED) → is_sound (answer t s area).timetable ≡ true
-    at (yes e) = sound_is _ (accepted-continues t s area e).sound
+    at (yes e) = sound_is _ (accepted_continues t s area e).sound
     at (no n) = ap is_sound (hands_back t s area n) ∙ h
 
 -- What passes the first stages has a sound timetable, is read whole, and has a slot that is not too early.
@@ -111,7 +111,7 @@ module _ (t : Timetable) (s : List ℕ) (area : ℕ) (read : ReadRequest) (q : r
 
   -- A refusal has a number above 0.
   refused_number : (r : Refusal) → verdict_before t read area ≡ Refused r → 0 < r.number
-  refused_number r e = (refusal-number t s area r (said t s area (Refused r) (ap (λ (y : ReadRequest). verdict_before t y area) (sym q) ∙ e))).0
+  refused_number r e = (refusal_number t s area r (said t s area (Refused r) (ap (λ (y : ReadRequest). verdict_before t y area) (sym q) ∙ e))).0
 
   pub first_number : (r : Refusal) → first_of (stages_first t read area) ≡ Refused r → 0 < r.number
   unfolding verdict_before
@@ -148,7 +148,7 @@ module _ (t : Timetable) (s : List ℕ) (area : ℕ) (read : ReadRequest) (q : r
 
       pub ready_plan : Ready plan
       ready_plan =
-          let fit = admitted-fit t read.request area passes in
+          let fit = admitted_fit t read.request area passes in
           subst Ready (sym p) (record { ranged = ranged_is (start_plan t read.request).entries fit.ranged; unplaced = fit.unplaced })
 
       pub holds : (x : Searched) → x ≡ search_from read.request.limit 0 plan → FoundIn read.request.slot x.ending

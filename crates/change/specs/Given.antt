@@ -22,9 +22,9 @@ use Rattle.transition.specs.RuleThree.{ByRuleThree, walked_to}
 -- The bound that a field asks for an id with this entry in the timetable: its R; or, where the field is short, which is read as 0, the R as before.
 pub data AsksBound (old : Entry) (asked bound : ℕ) : Type 0 where
   -- the R that is given
-  in-full : 0 < asked → bound ≡ asked → AsksBound old asked bound
+  in_full : 0 < asked → bound ≡ asked → AsksBound old asked bound
   -- the R with which the timetable lists the id
-  as-listed : asked ≡ 0 → is_listed old ≡ true → bound ≡ old.bound → AsksBound old asked bound
+  as_listed : asked ≡ 0 → is_listed old ≡ true → bound ≡ old.bound → AsksBound old asked bound
   -- 1 for an id that it does not list
   not_listed : asked ≡ 0 → is_listed old ≡ false → bound ≡ 1 → AsksBound old asked bound
 
@@ -56,7 +56,7 @@ pub record ByRules (q : Request) (start : List Entry) (t : Timetable) : Type 0 w
   -- rule 4: the offsets, from the entries walked to the base
   pub placed : ByRuleFour (walked_to start t.owners t.length) (λ i. (entry_of t.entries i).offset)
   -- the starts: the shortfalls at the request slot
-  pub start-count : length t.starts ≡ IDS
+  pub start_count : length t.starts ≡ IDS
   pub starts : (i : ℕ) → i < IDS → start_of t i ≡ (entry_of start i).shortfall
   -- each entry is the one walked to the base, at its offset, and where the record does not list the id the one at the request slot
   pub count : length t.entries ≡ IDS
@@ -89,17 +89,17 @@ pub record Wanting (t : Timetable) (q : Request) (n number : ℕ) : Type 0 where
   pub ends : EndsAt q.limit n (walked_to start owners n) number
 
 -- What a refusal returns beside its number, place and tries: no bytes written, and the timetable as given.
-abbrev pub refusedWith : Timetable → ℕ → ℕ → ℕ → Outcome
-refusedWith t number place tries = record { number = number; place = place; tries = tries; written = 0; timetable = t }
+abbrev pub refused_with : Timetable → ℕ → ℕ → ℕ → Outcome
+refused_with t number place tries = record { number = number; place = place; tries = tries; written = 0; timetable = t }
 
 -- What the bytes s of a request get from a timetable and an area: the outcome, and the area afterwards. A refusal leaves the area as it was.
 pub data Gives (t : Timetable) (s before : List ℕ) : Outcome → List ℕ → Type 0 where
   -- a refusal before the search
   early : (read : ReadRequest) → RequestRead s read → (x : Refusal) → StagesSay t read (length before) (Refused x)
-      → Gives t s before (refusedWith t x.number x.place 0) before
+      → Gives t s before (refused_with t x.number x.place 0) before
   -- a schedule
   schedule : (read : ReadRequest) → RequestRead s read → StagesSay t read (length before) Passed → (r : Outcome) (after : List ℕ)
       → Accepted t read.request before r after → Gives t s before r after
   -- the refusal for want of a schedule: its place is the length at which they end, with a try for each length passed over
   wanting : (read : ReadRequest) → RequestRead s read → StagesSay t read (length before) Passed → (n number : ℕ) → Wanting t read.request n number
-      → Gives t s before (refusedWith t number n (suc n)) before
+      → Gives t s before (refused_with t number n (suc n)) before

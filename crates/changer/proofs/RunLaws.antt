@@ -4,7 +4,7 @@ use mathlib.Core.List.{List}
 use mathlib.Core.Path.{◌≡◌, refl, sym, ap, ◌∙◌}
 use native.Mathlib.Omega.{arith}
 use Prim.Native.Nat.{ℕ, suc, ◌-◌, ◌≤◌, ◌<◌}
-use Rattle.changer.specs.Answers.{Answered, Answers, MOST, startController}
+use Rattle.changer.specs.Answers.{Answered, Answers, MOST, start_controller}
 use Rattle.changer.specs.declared.Controller.{Controller}
 use Rattle.frames.proofs.ProgramLaws.{last_line_lem, line_first, rest_less}
 use Rattle.frames.proofs.RunLaws.{ran_prints}
@@ -26,7 +26,7 @@ prints_lines (next {s} {r} {input} {text} {rest} e a p) most few =
 
 -- What a whole run put into the output is what the program prints for all that it read.
 pub run_lines : {input out input-after out-after : List ℕ} → (ran : Answers input out input-after out-after) → ran.frames < MOST
-    → put_in Controller Answered Puts startController ran ≡ program_lines ran.read
+    → put_in Controller Answered Puts start_controller ran ≡ program_lines ran.read
 unfolding program_lines
 run_lines ran few =
-    sym (prints_lines (ran_prints Controller Answered Puts startController ran few) (length ran.read) (omega arith))
+    sym (prints_lines (ran_prints Controller Answered Puts start_controller ran few) (length ran.read) (omega arith))

@@ -9,18 +9,18 @@ use Rattle.slots.specs.Limits.{AREA}
 use Rattle.timetable.specs.Timetable.{empty_timetable}
 
 -- The program starts with the empty timetable, its first request is number 1, and nothing is put.
-abbrev pub startController : Controller
-startController = record { timetable = empty_timetable; ordinal = 1; put = 0 }
+abbrev pub start_controller : Controller
+start_controller = record { timetable = empty_timetable; ordinal = 1; put = 0 }
 
 -- The line of a request.
-abbrev pub requestLine : Controller → List ℕ → List ℕ
-requestLine s request = line s.ordinal (answer s.timetable request AREA)
+abbrev pub request_line : Controller → List ℕ → List ℕ
+request_line s request = line s.ordinal (answer s.timetable request AREA)
 
 -- A request was answered: the timetable of its answer is in force, the next request has the next number, and that text is its line.
 pub record Answered (s : Controller) (request text : List ℕ) (r : Controller) : Type 0 where
   pub timetable : r.timetable ≡ (answer s.timetable request AREA).timetable
   pub ordinal : r.ordinal ≡ suc s.ordinal
-  pub told : text ≡ requestLine s request
+  pub told : text ≡ request_line s request
 
 -- The program answers as many requests as its numbers last.
 abbrev pub MOST : ℕ
@@ -28,4 +28,4 @@ MOST = 2 ^ 64 - 2
 
 -- The requests were answered until the input was over, or as many as the program counts.
 abbrev pub Answers : List ℕ → List ℕ → List ℕ → List ℕ → Type 0
-Answers input out input-after out-after = Ran Controller Answered Puts startController MOST input out input-after out-after
+Answers input out input-after out-after = Ran Controller Answered Puts start_controller MOST input out input-after out-after

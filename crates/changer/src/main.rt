@@ -1,6 +1,6 @@
 // The program: frames of requests from standard input, a line for each to standard output, in bounded memory. A bad frame ends it.
 ghost use Rattle.std.specs.Prelude.{length, true, ◌≡◌, ◌+◌, ◌-◌, ◌^◌, ◌≤◌, ◌<◌};
-ghost use Rattle.changer.specs.Answers.{Answered, Answers, requestLine};
+ghost use Rattle.changer.specs.Answers.{Answered, Answers, request_line};
 ghost use Rattle.frames.specs.Coded.{LINE_ROOM, Puts};
 ghost use Rattle.frames.specs.Program.{answered_length};
 ghost use Rattle.timetable.specs.Sound.{is_sound};
@@ -46,8 +46,8 @@ fn run(input: &mut [u8], out: &mut [u8]) -> usize
 // A request is answered, and its line put into the output. The timetable is sound, as the empty one is and each that a change returns, so it is not tested again.
 fn answered(s: Controller, request: &[u8], put: usize, out: &mut [u8]) -> Controller
     requires { (put + LINE_ROOM ≤ length out.old) × (s.ordinal < 2 ^ 64 - 1) × (is_sound s.timetable ≡ true) }
-    ensures put_in_bounds { (result.put ≤ length out.old) × (is_sound result.timetable ≡ true) × Answered s request.now (requestLine s request.now) result }
-    ensures puts { Puts out.old put (requestLine s request.now) out.new result.put }
+    ensures put_in_bounds { (result.put ≤ length out.old) × (is_sound result.timetable ≡ true) × Answered s request.now (request_line s request.now) result }
+    ensures puts { Puts out.old put (request_line s request.now) out.new result.put }
 {
     let t = s.timetable;
     let mut area = [0u8; Timetable::AREA];

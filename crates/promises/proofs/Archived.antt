@@ -9,7 +9,7 @@ use Prim.Native.Nat.{ℕ, ◌<◌}
 use Rattle.archive.proofs.AnswerBack.{answer_back, entries_record, placed_blank}
 use Rattle.archive.specs.AnswerRead.{entry_offset, read_answer, schedule_of, whole_answer}
 use Rattle.archive.specs.AnswerReads.{ScheduleRange}
-use Rattle.change.proofs.Answers.{accepted-continues, accepted-owners, record-accepted}
+use Rattle.change.proofs.Answers.{accepted_continues, accepted_owners, record_accepted}
 use Rattle.change.specs.Change.{answer, record_of}
 use Rattle.numbers.specs.Numbers.{ACCEPTED}
 use Rattle.slots.proofs.Below.{true_false}
@@ -30,12 +30,12 @@ module _ (t : Timetable) (s : List ℕ) (area : ℕ) (e : (answer t s area).numb
   -- The schedule of an accepted request's timetable is in range.
   accepted_range : ScheduleRange (schedule_of (answer t s area).timetable)
   accepted_range =
-      let c = accepted-continues t s area e in
+      let c = accepted_continues t s area e in
       let sound = c.sound in
       let es = (answer t s area).timetable.entries in
       record {
         short = sound.size;
-        slots = accepted-owners t s area e;
+        slots = accepted_owners t s area e;
         owner = λ k h. listed_id es _ c.shape (sound.owners k h);
         unused = λ k h b. sound.unused k b h;
         ids = length-map es entry_offset ∙ c.shape;
@@ -46,5 +46,5 @@ module _ (t : Timetable) (s : List ℕ) (area : ℕ) (e : (answer t s area).numb
   pub accepted_read : read_answer (record_of (answer t s area)) ≡ whole_answer (schedule_of (answer t s area).timetable)
   accepted_read =
       let n = (answer t s area).timetable in
-      ap read_answer (record-accepted (answer t s area) e ∙ entries_record n.length n.owners n.entries)
+      ap read_answer (record_accepted (answer t s area) e ∙ entries_record n.length n.owners n.entries)
       ∙ answer_back (schedule_of n) accepted_range

@@ -16,7 +16,7 @@ use Rattle.archive.proofs.AnswerSteps.{answer_damaged, answer_is, answer_read, f
 use Rattle.archive.proofs.RequestPlaces.{request_written, request_written_one}
 use Rattle.archive.proofs.WrittenBack.{accepted_whole, handed_lists, written_back}
 use Rattle.archive.specs.AnswerRead.{read_answer}
-use Rattle.change.proofs.Answers.{Gets, refused, accepted, no_slot, no_length, gets, accepted-continues, record-accepted, record-none, refusal-number}
+use Rattle.change.proofs.Answers.{Gets, refused, accepted, no_slot, no_length, gets, accepted_continues, record_accepted, record_none, refusal_number}
 use Rattle.change.proofs.AsBefore.{behind_named}
 use Rattle.change.proofs.GivenLaws.{at_request, gives, wanting_number}
 use Rattle.change.proofs.Granted.{granted}
@@ -29,7 +29,7 @@ use Rattle.change.specs.Change.{answer, answer_to, answer_of, outcome, outcome_o
 use Rattle.change.specs.Controller.{Sent, history_of, send}
 use Rattle.change.specs.declared.Answer.{Answer}
 use Rattle.change.specs.declared.Outcome.{Outcome}
-use Rattle.change.specs.Given.{Gives, early, refusedWith, schedule, wanting}
+use Rattle.change.specs.Given.{Gives, early, refused_with, schedule, wanting}
 use Rattle.change.specs.Queries.{owner_query, standing, standing_query}
 use Rattle.change.specs.Refused.{StagesSay}
 use Rattle.change.specs.Stages.{verdict_before}
@@ -87,13 +87,13 @@ held t s area = at (answer t s area) (gets t s area)
   where
     nothing : (a : Answer) → a.number ≢ ACCEPTED → a.timetable ≡ t → Held t area a
     nothing a n e =
-        let z = ap (λ (bs : List ℕ). length bs) (record-none a n) in
+        let z = ap (λ (bs : List ℕ). length bs) (record_none a n) in
         record { short = omega (arith, z); fits = omega (arith, z); refused = λ _. e }
 
     at : (a : Answer) → Gets t s area a → Held t area a
     at a (refused q e l h) = nothing a (λ z. omega (arith, z)) refl
     at a (accepted e p k l b q h ps f) =
-        let m : length (record_of a) ≤ AREA = rw (record-accepted a refl) (answer_length k _ _ (omega (arith, p.range.limit))) in
+        let m : length (record_of a) ≤ AREA = rw (record_accepted a refl) (answer_length k _ _ (omega (arith, p.range.limit))) in
         record { short = m; fits = omega (arith, m, p.room); refused = λ n. absurd (n refl) }
     at a (no_slot e p k l b q h f) = nothing a (λ z. omega arith) refl
     at a (no_length e p b) = nothing a (λ z. omega arith) refl
@@ -102,9 +102,9 @@ pub sound_stays : SoundStays
 unfolding outcome area_after
 sound_stays = record {
   empty = empty_sound;
-  accepted = λ t s area e. sound_is _ (accepted-continues t s (length area) e).sound;
+  accepted = λ t s area e. sound_is _ (accepted_continues t s (length area) e).sound;
   refused = λ t s area n.
-      let e = record-none (answer t s (length area)) n in
+      let e = record_none (answer t s (length area)) n in
       ((held t s (length area)).refused n, ap (λ (bs : List ℕ). length bs) e, ap (sets area 0) e);
   short = λ t s area. (held t s (length area)).short;
   fits = λ t s area. (held t s (length area)).fits;
@@ -141,9 +141,9 @@ placement_complete = record {
 
 -- A refusal that the rules give before the search is the outcome.
 refused_so : (t : Timetable) (s area : List ℕ) (read : ReadRequest) → RequestRead s read → (x : Refusal) → StagesSay t read (length area) (Refused x)
-    → (outcome t s area ≡ refusedWith t x.number x.place 0) × (area_after t s area ≡ area)
+    → (outcome t s area ≡ refused_with t x.number x.place 0) × (area_after t s area ≡ area)
 refused_so t s area read e x p =
-    gives_one t s area (outcome t s area) (refusedWith t x.number x.place 0) (area_after t s area) area (gives t s area) (early read e x p)
+    gives_one t s area (outcome t s area) (refused_with t x.number x.place 0) (area_after t s area) area (gives t s area) (early read e x p)
 
 -- A request that passes gets no refusal before the search.
 no_refusal : (t : Timetable) (s : List ℕ) (area : ℕ) → Passes t s area → verdict_before t (read_request s) area ≡ Passed
@@ -269,7 +269,7 @@ passes : (t : Timetable) (s area : List ℕ) → (0 < (outcome t s area).number 
 passes t s area = at (outcome t s area) (area_after t s area) (gives t s area)
   where
     at : (r : Outcome) (out : List ℕ) → Gives t s area r out → (0 < r.number → r.number < SLOT_MISSED → ⊥) → Passes t s (length area)
-    at r out (early a d x p) n = let k = refusal-number t s (length area) x (as_read (λ y. StagesSay t y (length area) (Refused x)) s a d p) in absurd (n k.0 k.1)
+    at r out (early a d x p) n = let k = refusal_number t s (length area) x (as_read (λ y. StagesSay t y (length area) (Refused x)) s a d p) in absurd (n k.0 k.1)
     at r out (schedule a d p u v w) n = as_read (λ y. StagesSay t y (length area) Passed) s a d p
     at r out (wanting a d p k x w) n = as_read (λ y. StagesSay t y (length area) Passed) s a d p
 
@@ -407,7 +407,7 @@ debts = record {
       record { falls = worked_off (run_of h); absent = absent_run h (history_valid sent) };
   stays = stays;
   accepted = λ t s area e i k.
-      let c = accepted-continues t s (length area) e in
+      let c = accepted_continues t s (length area) e in
       shortfall_request (answer t s (length area)).timetable i ∙ c.starts i k;
 }
   where

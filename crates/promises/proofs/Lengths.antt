@@ -8,7 +8,7 @@ use mathlib.Core.Path.{◌≡◌, refl, sym, ap, ◌∙◌, subst}
 use native.Mathlib.Decide.{dec_lt}
 use native.Mathlib.Omega.{arith}
 use Prim.Native.Nat.{ℕ, suc, ◌-◌, ◌≤◌, ◌<◌}
-use Rattle.change.proofs.Answers.{admitted-fit, Gets, Admitted, refused, accepted, no_slot, no_length, gets}
+use Rattle.change.proofs.Answers.{admitted_fit, Gets, Admitted, refused, accepted, no_slot, no_length, gets}
 use Rattle.change.specs.Change.{answer, start_plan}
 use Rattle.change.specs.declared.Answer.{Answer}
 use Rattle.change.specs.Stages.{verdict_before}
@@ -84,7 +84,7 @@ module _ (t : Timetable) (s : List ℕ) (area : ℕ) (pass : verdict_before t (r
   plan = start_plan t r
 
   fit : Admitted t r area → Fit 0 plan
-  fit p = admitted-fit t r area p
+  fit p = admitted_fit t r area p
 
   -- A refusal before the search is none of a request that passes.
   not_refused : (q : Refusal) → verdict_before t (read_request s) area ≡ Refused q → ⊥

@@ -11,7 +11,7 @@ use Rattle.archive.specs.AnswerRead.{no_schedule, read_answer, schedule_of}
 use Rattle.archive.specs.AnswerReads.{AnswerRead, FieldRead}
 use Rattle.archive.specs.declared.Writing.{Writing}
 use Rattle.archive.specs.Writes.{RequestWritten}
-use Rattle.change.proofs.Answers.{refusal-number}
+use Rattle.change.proofs.Answers.{refusal_number}
 use Rattle.change.proofs.GivenLaws.{wanting_number}
 use Rattle.change.proofs.Histories.{sent_accepted, sent_refused}
 use Rattle.change.specs.Change.{answer, area_after, outcome}
@@ -71,7 +71,7 @@ demand_two = record {
         → r.number ≡ ACCEPTED → Accepted t read.request area r out
     so t s area read e r out (early a d x p) n =
         absurd
-        (let k = refusal-number t s (length area) x (as_read (λ y. StagesSay t y (length area) (Refused x)) s a d p) in
+        (let k = refusal_number t s (length area) x (as_read (λ y. StagesSay t y (length area) (Refused x)) s a d p) in
         omega (arith, k.0, n))
     so t s area read e r out (schedule a d p u v w) n =
         read_alike (λ y. Accepted t y.request area u v) s a read d e w

@@ -11,7 +11,7 @@ use Rattle.change.specs.Change.{outcome, area_after}
 use Rattle.change.specs.declared.Outcome.{Outcome}
 use Rattle.change.specs.declared.OwnerAnswer.{OwnerAnswer}
 use Rattle.change.specs.declared.StandingAnswer.{StandingAnswer}
-use Rattle.change.specs.Given.{Accepted, Gives, refusedWith}
+use Rattle.change.specs.Given.{Accepted, Gives, refused_with}
 use Rattle.change.specs.Queried.{OwnerGiven, StandingGiven, owner_answer, standing_answer}
 use Rattle.change.specs.Queries.{owner_query, standing_query}
 use Rattle.change.specs.Refused.{StagesSay}
@@ -50,7 +50,7 @@ pub data Serves : History → Type 0 where
 pub record DemandOne : Type 0 where
   pub given : (t : Timetable) (s area : List ℕ) (r : Outcome) (out : List ℕ) → Meets t s area r out
       → (read : ReadRequest) → RequestRead s read → (x : Refusal) → StagesSay t read (length area) (Refused x)
-      → (r ≡ refusedWith t x.number x.place 0) × (out ≡ area)
+      → (r ≡ refused_with t x.number x.place 0) × (out ≡ area)
   pub only : (t : Timetable) (s area : List ℕ) (r : Outcome) (out : List ℕ) → Meets t s area r out
       → r.number ≢ ACCEPTED → r.number ≢ SLOT_MISSED → r.number ≢ LENGTHS_EXHAUSTED
       → (read : ReadRequest) → RequestRead s read → StagesSay t read (length area) (Refused (record { number = r.number; place = r.place }))

@@ -15,7 +15,7 @@ use Rattle.change.specs.Controller.{Sent, history_of, send}
 use Rattle.change.specs.declared.Outcome.{Outcome}
 use Rattle.change.specs.declared.OwnerAnswer.{OwnerAnswer}
 use Rattle.change.specs.declared.StandingAnswer.{StandingAnswer}
-use Rattle.change.specs.Given.{AsksBound, AtRequest, Gives, refusedWith}
+use Rattle.change.specs.Given.{AsksBound, AtRequest, Gives, refused_with}
 use Rattle.change.specs.Queried.{OwnerGiven, StandingGiven}
 use Rattle.change.specs.Queries.{owner_query, standing_query}
 use Rattle.change.specs.Refused.{StagesSay}
@@ -121,7 +121,7 @@ pub record Tries : Type 0 where
 -- 3, then 4, then 5. (Shuts out: places told modulo 10; numbers 1 to 5 all told as 6; an overfull listing refused before its fields are read.)
 pub record Stages : Type 0 where
   pub refused : (t : Timetable) (s area : List ℕ) (read : ReadRequest) → RequestRead s read → (x : Refusal) → StagesSay t read (length area) (Refused x)
-      → (outcome t s area ≡ refusedWith t x.number x.place 0) × (area_after t s area ≡ area)
+      → (outcome t s area ≡ refused_with t x.number x.place 0) × (area_after t s area ≡ area)
   pub refused_only : (t : Timetable) (s area : List ℕ) (read : ReadRequest) → RequestRead s read
       → (outcome t s area).number ≢ ACCEPTED → (outcome t s area).number ≢ SLOT_MISSED → (outcome t s area).number ≢ LENGTHS_EXHAUSTED
       → StagesSay t read (length area) (Refused (record { number = (outcome t s area).number; place = (outcome t s area).place }))

@@ -6,7 +6,7 @@ use mathlib.Core.List.{List}
 use mathlib.Core.Path.{refl, sym, ap, ◌∙◌}
 use native.Mathlib.Omega.{arith}
 use Prim.Native.Nat.{ℕ}
-use Rattle.change.proofs.Answers.{record-none}
+use Rattle.change.proofs.Answers.{record_none}
 use Rattle.change.proofs.Passing.{answer_unsound}
 use Rattle.change.specs.Change.{area_after, outcome, outcome_of, written}
 use Rattle.change.specs.declared.Answer.{Answer}
@@ -30,7 +30,7 @@ returns c =
     let i = n.before in
     let a = i.before.before.before.before.args in
     let e = n.not_sound.ensures ∙ sym (answer_unsound a.t _ _ _ refl (refused _ _ i.before.is-sound.ensures i.if1.true)) in
-    let none = sym (record-none n.not_sound.result (λ z. omega (arith, z, ap (λ (x : Answer). x.number) n.not_sound.ensures))) in
+    let none = sym (record_none n.not_sound.result (λ z. omega (arith, z, ap (λ (x : Answer). x.number) n.not_sound.ensures))) in
     (c.with-written.ensures (ap (λ (x : List ℕ). length x) none) ∙ ap outcome_of e, ap (sets a.area.now 0) none ∙ ap (λ (x : Answer). written x a.area.now) e)
 
 change-sound-requires : tie.Need-change-sound-requires

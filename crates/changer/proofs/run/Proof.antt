@@ -7,7 +7,7 @@ use mathlib.Core.Logic.{⊎_elim}
 use mathlib.Core.Path.{◌≡◌, refl, ap, ◌∙◌}
 use native.Mathlib.Omega.{arith}
 use Prim.Native.Nat.{suc, ◌-◌, ◌^◌, ◌≤◌}
-use Rattle.changer.specs.Answers.{Answered, startController}
+use Rattle.changer.specs.Answers.{Answered, start_controller}
 use Rattle.changer.specs.declared.Controller.{Controller}
 use Rattle.frames.proofs.RunLaws.{Stood, begins, one_more}
 use Rattle.frames.specs.Buffers.{Inside}
@@ -20,7 +20,7 @@ use Rattle.changer.proofs.run.Tie as tie
 abbrev invariant-loop : tie.invariant-loop
 invariant-loop input₀ out₀ s₀ p₀ input out s p =
     Inside p (length input) (length out) × (length input ≡ length input₀) × (length out ≡ length out₀) × (1 ≤ s.ordinal) × (s.ordinal ≤ 2 ^ 64 - 1)
-    × Stood Controller Answered Puts startController p₀ input₀ out₀ s p input out (s.ordinal - 1) × (is_sound s.timetable ≡ true)
+    × Stood Controller Answered Puts start_controller p₀ input₀ out₀ s p input out (s.ordinal - 1) × (is_sound s.timetable ≡ true)
 
 abbrev decreases-loop : tie.decreases-loop
 decreases-loop input₀ out₀ s₀ p₀ input out s p = 2 ^ 64 - 1 - s.ordinal
@@ -35,7 +35,7 @@ loop-holds : tie.Need-loop-init invariant-loop decreases-loop
 loop-holds c =
     let begin = c.before.before.before.before in
     let empty = begin.before.before.before in
-    (begin.next-frame.ensures.0, refl, refl, omega arith, omega arith, rw empty.empty.ensures (begins Controller Answered Puts startController), ap is_sound empty.empty.ensures ∙ empty_sound)
+    (begin.next-frame.ensures.0, refl, refl, omega arith, omega arith, rw empty.empty.ensures (begins Controller Answered Puts start_controller), ap is_sound empty.empty.ensures ∙ empty_sound)
 
 add-content : tie.Need-overflow-add-content invariant-loop decreases-loop
 add-content c =
@@ -92,7 +92,7 @@ loop-again c =
       search rules,
       omega arith,
       omega arith,
-      one_more Controller Answered Puts startController q.invariant.5 goes.if2.true q.invariant.0 done.answered.ensures.0.2 done.answered.ensures.1 next.next-frame2.ensures.1 _ n,
+      one_more Controller Answered Puts start_controller q.invariant.5 goes.if2.true q.invariant.0 done.answered.ensures.0.2 done.answered.ensures.1 next.next-frame2.ensures.1 _ n,
       done.answered.ensures.0.1,
     )
 
