@@ -24,6 +24,7 @@ true_false p q = true≢false (sym p ∙ q)
 module _ (test : ℕ → Bool) where
   pub every_at : (n : ℕ) → every n test ≡ true → (m : ℕ) → m < n → test m ≡ true
   unfolding every
+  every_at zero e m h = elim h [ ]
   every_at (suc n) e m h = at (ℕ_discrete m n) (and_both (every n test) (test n) e) (λ k. every_at n (and_both (every n test) (test n) e).0 m k)
     where
       at : Dec (m ≡ n) → (every n test ≡ true) × (test n ≡ true) → (m < n → test m ≡ true) → test m ≡ true
@@ -56,6 +57,7 @@ module _ (test : ℕ → Bool) where
 
   pub first_none : (n : ℕ) → first n test ≡ none → (m : ℕ) → m < n → test m ≡ false
   unfolding first
+  first_none zero e m h = elim h [ ]
   first_none (suc n) e m h = at (first n test) (test n) refl refl e (first_none n) (ℕ_discrete m n)
     where
       at : (f : Option ℕ) (b : Bool) → first n test ≡ f → test n ≡ b → ◌≡◌ {A = Option ℕ} (elim f [ none ↦ cond b (some n) none | some i ↦ some i ]) none
@@ -128,6 +130,7 @@ module _ (test : ℕ → Bool) where
   -- A number that passes adds to the count of those below it.
   pub count_rises : (i n : ℕ) → i < n → test i ≡ true → count i test < count n test
   unfolding count
+  count_rises i zero h t = elim h [ ]
   count_rises i (suc n) h t = at (ℕ_discrete i n) (λ k. count_rises i n k t)
     where
       at : Dec (i ≡ n) → (i < n → count i test < count n test) → count i test < count n test + cond (test n) 1 0
