@@ -1,4 +1,5 @@
 // Archived answers read and requests written, for the lab network. What the controller does not do itself stands here.
+#![tactic(auto)]
 use numbers::Refusal;
 use records::Reading;
 use timetable::Timetable;
@@ -8,7 +9,7 @@ pub mod writer; // writer.rt: writing a request
 pub mod reader; // reader.rt: a reader of answers that keeps the record and its place, and reading a whole answer
 
 // What stands at a place of an answer: the transition's length; its owners, of which this tells how many; an id with its offset; nothing more; or the refusal.
-#[derive(Drop)]
+#[derive(Clone, Copy)]
 pub enum AnswerField {
     Length(u8),
     Owners(u8),
@@ -18,14 +19,14 @@ pub enum AnswerField {
 }
 
 // What stands at a place, and the place after it. Where nothing more stands or the field is refused, that is the same place.
-#[derive(Drop)]
+#[derive(Clone, Copy)]
 pub struct AnswerStep {
     pub field: AnswerField,
     pub next: usize,
 }
 
 // What an answer says of an id: whether it is listed, and its offset, 0 where it is not.
-#[derive(Drop)]
+#[derive(Clone, Copy)]
 pub struct IdOffset {
     pub listed: bool,
     pub offset: u8,
@@ -47,7 +48,7 @@ pub struct ReadAnswer {
 }
 
 // What writing a request returns: its number and place, and the bytes written.
-#[derive(Drop)]
+#[derive(Clone, Copy)]
 pub struct Writing {
     pub number: u8,
     pub place: usize,

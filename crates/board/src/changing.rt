@@ -11,7 +11,7 @@ use slots::CoreSlot;
 use timetable::{Timetable, are_sound};
 
 // What a request gets: a number, its place, the lengths searched and the bytes written.
-#[derive(Drop)]
+#[derive(Clone, Copy)]
 pub struct Told {
     pub number: u8,
     pub place: usize,

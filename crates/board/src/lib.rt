@@ -1,4 +1,5 @@
 // The library as a C program on the board calls it. A timetable is an image of 337 bytes, and each function returns a number of docs/RULES.md 7.1.
+#![tactic(auto)]
 ghost use Rattle.std.specs.Prelude.{◌≡◌};
 ghost use Rattle.archive.specs.AnswerRead.{field_at};
 ghost use Rattle.board.specs.Archive.{AnswerTold, FieldTold, RequestTold};

@@ -1,4 +1,5 @@
 // The change of a timetable by a request, and the two queries. Nothing is assumed checked: bad input is refused by number.
+#![tactic(auto)]
 ghost use Rattle.std.specs.Prelude.{length, replicate, true, ◌≡◌};
 ghost use Rattle.change.specs.Change.{answer, outcome, area_after};
 ghost use Rattle.change.specs.Columns.{Decides};
@@ -45,7 +46,7 @@ pub struct Outcome {
 }
 
 // What the owner query gets: the owner, or 255 for idle.
-#[derive(Drop)]
+#[derive(Clone, Copy)]
 pub struct OwnerAnswer {
     pub number: u8,
     pub place: usize,
@@ -53,7 +54,7 @@ pub struct OwnerAnswer {
 }
 
 // What the standing query gets: the shortfall at the slot's start, and the slices had from the request slot up to there.
-#[derive(Drop)]
+#[derive(Clone, Copy)]
 pub struct StandingAnswer {
     pub number: u8,
     pub place: usize,

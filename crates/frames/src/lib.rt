@@ -1,4 +1,5 @@
 // The frames that a program reads and the lines that it prints, over buffers that the caller keeps. A frame with another tag or a content above 4,096 bytes is refused.
+#![tactic(auto)]
 ghost use Rattle.std.specs.Prelude.{drop, length, take, [], ◌∷◌, ◌++◌, ◌≡◌, ◌+◌, ◌-◌, ◌≤◌};
 ghost use Rattle.std.proofs.lemmas.List.Edits.{sets};
 ghost use Rattle.frames.specs.Coded.{LINE_ROOM, NUMBER_ROOM, Puts, head_of};
@@ -25,7 +26,7 @@ const BYTE: usize = 256;
 const DIGITS: usize = 20;
 
 // What a frame's header says: the length of the content, or that the frame is bad.
-#[derive(Drop)]
+#[derive(Clone, Copy)]
 pub enum Head {
     Content(usize),
     Bad,

@@ -7,7 +7,7 @@ use crate::{HEADER, Head, LINE_ROOM};
 use libc::{STDIN_FILENO, STDOUT_FILENO};
 
 // Whether a whole frame stands ahead, from `from` up to `end`; the input read, up to `to`; and the output that waits, up to `put`. If none does, the input is over.
-#[derive(Drop)]
+#[derive(Clone, Copy)]
 pub struct Places {
     pub from: usize,
     pub end: usize,
@@ -17,7 +17,7 @@ pub struct Places {
 }
 
 // What stands next in the input: a whole frame with that much content, a part of one, or none.
-#[derive(Drop)]
+#[derive(Clone, Copy)]
 enum Next {
     Frame(usize),
     Part,

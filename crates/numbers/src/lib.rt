@@ -1,9 +1,10 @@
 // What each number says, and a refusal: its number and its place. Nothing here is refused.
+#![tactic(auto)]
 ghost use Rattle.std.specs.Prelude.{◌≡◌};
 ghost use Rattle.numbers.specs.Numbers.{refusal};
 
 // Why something was refused: a number of docs/RULES.md 7.1 and its place.
-#[derive(Drop)]
+#[derive(Clone, Copy)]
 pub struct Refusal {
     pub number: u8,
     pub place: usize,
@@ -55,7 +56,7 @@ impl Refusal {
 }
 
 // What a stage says of a request: a refusal, or that it is passed.
-#[derive(Drop)]
+#[derive(Clone, Copy)]
 pub enum Verdict {
     Passed,
     Refused(Refusal),

@@ -5,7 +5,7 @@ use crate::reading;
 use frames::stream;
 
 // How bytes are printed: as they are, in hexadecimal, or packed and in hexadecimal.
-#[derive(Drop)]
+#[derive(Clone, Copy)]
 enum Form {
     Text,
     Hex,

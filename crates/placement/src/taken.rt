@@ -17,7 +17,7 @@ const WORDS: usize = Timetable::WHOLE as usize / WORD;
 pub type Taken = [u64; WORDS];
 
 // A free offset, or that there is none.
-#[derive(Drop)]
+#[derive(Clone, Copy)]
 pub enum Free {
     At(usize),
     Nowhere,

@@ -1,4 +1,5 @@
 // A test tool: any timetable, record, request and area through the library's C interface, and everything that comes back printed. Its protocol is docs/PROBE.md.
+#![tactic(auto)]
 ghost use Rattle.std.specs.Prelude.{length, ◌≡◌, ◌≤◌};
 ghost use Rattle.frames.specs.Coded.{LINE_ROOM};
 ghost use Rattle.probe.specs.Probes.{Probes};

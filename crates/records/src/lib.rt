@@ -1,4 +1,5 @@
 // Requests and answers as bytes. A field is either read or refused at once, left to right.
+#![tactic(auto)]
 use numbers::Refusal;
 use slots::CoreSlot;
 use timetable::Timetable;
@@ -10,20 +11,20 @@ pub mod read; // read.rt: reading a request
 pub use fields::{content_at, is_field, number_at, put_head, put_number};
 
 // The place of the next field.
-#[derive(Drop)]
+#[derive(Clone, Copy)]
 pub struct Cursor {
     pub at: usize,
 }
 
 // A number with the next cursor, or the refusal.
-#[derive(Drop)]
+#[derive(Clone, Copy)]
 pub enum NumberField {
     Value(u64, Cursor),
     Refused(Refusal),
 }
 
 // What one field lists: an id, its period, and its bound, which is 0 where the field was short.
-#[derive(Drop)]
+#[derive(Clone, Copy)]
 pub struct Listed {
     pub id: u8,
     pub period: u16,
@@ -31,21 +32,21 @@ pub struct Listed {
 }
 
 // What a field lists with the next cursor, or the refusal.
-#[derive(Drop)]
+#[derive(Clone, Copy)]
 pub enum ListedField {
     Value(Listed, Cursor),
     Refused(Refusal),
 }
 
 // What a request asks for an id. A period of 0 says that it does not list the id, and a bound of 0 that its field was short.
-#[derive(Drop)]
+#[derive(Clone, Copy)]
 pub struct Ask {
     pub period: u16,
     pub bound: u8,
 }
 
 // Whether a whole record was read.
-#[derive(Drop)]
+#[derive(Clone, Copy)]
 pub enum Reading {
     Whole,
     Refused(Refusal),

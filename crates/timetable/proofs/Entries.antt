@@ -29,6 +29,7 @@ module _ (f : ℕ → Entry → Entry) where
   -- What stands at the first n ids afterwards.
   pub each_at : (n : ℕ) (es : List Entry) → n ≤ length es → (i : ℕ) → i < n → entry_of (each f n es) i ≡ f i (entry_of es i)
   unfolding each
+  each_at zero es h i k = elim k [ ]
   each_at (suc n) es h i k = at (ℕ_discrete i n) (λ l. each_at n es (omega arith) i l)
     where
       at : Dec (i ≡ n) → (i < n → entry_of (each f n es) i ≡ f i (entry_of es i))

@@ -1,4 +1,5 @@
 // The timetable of one core: its limits, its fields and the empty one. Nothing here is refused.
+#![tactic(auto)]
 ghost use Rattle.std.specs.Prelude.{◌≡◌};
 ghost use Rattle.timetable.specs.Timetable.{absent_entry, empty_timetable};
 
@@ -14,7 +15,7 @@ pub use serving::{owner_at, standing_at};
 pub use soundness::{are_sound, is_bound};
 
 // What a timetable holds for one id. A period of 0 says that the id is not listed.
-#[derive(Drop)]
+#[derive(Clone, Copy)]
 pub struct Entry {
     pub period: u16,
     pub offset: u8,
@@ -48,7 +49,7 @@ pub struct Timetable {
 }
 
 // How an id stands at a slot: its shortfall at the slot's start, and the slices that it has had from the request slot up to there.
-#[derive(Drop)]
+#[derive(Clone, Copy)]
 pub struct Standing {
     pub shortfall: u16,
     pub slices: SliceCount,

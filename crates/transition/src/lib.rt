@@ -1,11 +1,12 @@
 // The transition: rules 2 and 3, docs/RULES.md 4.2 and 4.3. Lengths are searched one after the other; each further slot goes to the most urgent. Nothing here is refused.
+#![tactic(auto)]
 use timetable::Timetable;
 
 pub mod lengths; // lengths.rt: the search of lengths
 mod step; // step.rt: one more transition slot
 
 // How the search of lengths ended.
-#[derive(Drop)]
+#[derive(Clone, Copy)]
 pub enum Ending {
     // A placement was found at this length.
     Found(u8),
@@ -24,7 +25,7 @@ pub struct SearchEnd {
 }
 
 // Whom one more slot goes to, or that it goes to nobody.
-#[derive(Drop)]
+#[derive(Clone, Copy)]
 pub enum Urgent {
     Id(usize),
     Nobody,

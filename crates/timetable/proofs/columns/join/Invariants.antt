@@ -1,0 +1,17 @@
+-- `join` meets its contract: the loop's invariant is that the entries of the ids below `id` are put. Assumes nothing.
+use borrow.Author.Rules.{rules}
+use mathlib.Core.Path.{◌≡◌, ap}
+use native.Mathlib.Omega.{arith}
+use Prim.Native.Nat.{◌-◌, ◌≤◌}
+use lib.ListN.{replicate}
+use Rattle.slots.specs.Limits.{IDS}
+use Rattle.timetable.proofs.Entries.{each_all, each_next}
+use Rattle.timetable.specs.Columns.{from_columns, row_of}
+use Rattle.timetable.specs.Timetable.{each, no_entry}
+use Rattle.timetable.proofs.columns.join.Given as goal
+
+abbrev pub invariant-loop-id : goal.invariant-loop-id
+invariant-loop-id l = (l.id ≤ IDS) × (l.entries ≡ each (λ i _. row_of l.periods l.offsets l.bounds l.shortfalls i) l.id (replicate IDS no_entry))
+
+abbrev pub decreases-loop-id : goal.decreases-loop-id
+decreases-loop-id l = IDS - l.id

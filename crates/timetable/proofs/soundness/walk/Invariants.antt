@@ -1,0 +1,13 @@
+-- `walk` meets its contract: the loop's invariant is what each id would be owed at the base after `n` transition slots, without those left. Assumes nothing.
+use lib.ListN.{get_or}
+use native.Mathlib.Omega.{arith}
+use Prim.Native.Nat.{◌-◌, ◌*◌, ◌≤◌, ◌<◌}
+use Rattle.slots.specs.Limits.{IDS}
+use Rattle.timetable.proofs.WalkLaws.{Owed, owed_after, owed_before, owed_next, owed_small, rest_there}
+use Rattle.timetable.proofs.soundness.walk.Given as goal
+
+abbrev pub invariant-loop-n : goal.invariant-loop-n
+invariant-loop-n l = (l.n ≤ l.size) × Owed l.owners l.size l.weights l.initial.owed l.n l.owed
+
+abbrev pub decreases-loop-n : goal.decreases-loop-n
+decreases-loop-n l = l.size - l.n
