@@ -8,7 +8,7 @@ use mathlib.Core.Path.{◌≡◌, refl, sym, ap, ◌∙◌, subst}
 use native.Mathlib.Decide.{ℕ_discrete, dec_lt}
 use native.Mathlib.Nat.{add_assoc, zero-add}
 use native.Mathlib.Omega.{arith}
-use Prim.Native.Nat.{ℕ, suc, ◌+◌, ◌-◌, ◌*◌, ◌/◌, ◌≤◌, ◌<◌}
+use Prim.Native.Nat.{ℕ, zero, suc, ◌+◌, ◌-◌, ◌*◌, ◌/◌, ◌≤◌, ◌<◌}
 use Rattle.records.proofs.AnswerLaws.{answer_bytes, answer_length, answer_run, answer_head, offsets_length}
 use Rattle.records.proofs.SetsLaws.{sets_front, sets_rest}
 use Rattle.records.specs.Answer.{answer_record, field, entry_fields, rising}
@@ -37,6 +37,7 @@ offset_bytes es i = 0x12 ∷ 0 ∷ 2 ∷ i ∷ (entry_of es i).offset ∷ []
 -- Among the offset fields of the ids below m, a listed id's stands behind those of the lower listed ids, five bytes each.
 offset_from : (es : List Entry) (m i : ℕ) → i < m → is_listed (entry_of es i) ≡ true → Stand (entry_fields es m) (5 * listed_below es i) (offset_bytes es i)
 unfolding rising field
+offset_from es zero i h l = elim h [ ]
 offset_from es (suc m) i h l = at (ℕ_discrete i m) (λ k. offset_from es m i k l)
   where
     at : Dec (i ≡ m) → (i < m → Stand (entry_fields es m) (5 * listed_below es i) (offset_bytes es i))

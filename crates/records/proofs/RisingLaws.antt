@@ -21,6 +21,7 @@ module _ (f g : ℕ → List ℕ) where
   -- One id more, above all for which something was written, is written behind them.
   pub rising_above : (id : ℕ) → ((i : ℕ) → i ≢ id → g i ≡ f i) → ((i : ℕ) → id ≤ i → f i ≡ []) → (n : ℕ) → id < n → rising g n ≡ rising f n ++ g id
   unfolding rising
+  rising_above id same none zero h = elim h [ ]
   rising_above id same none (suc n) h = by (ℕ_discrete n id) (rising_above id same none n)
     where
       by : Dec (n ≡ id) → (id < n → rising g n ≡ rising f n ++ g id) → rising g n ++ g n ≡ (rising f n ++ f n) ++ g id
