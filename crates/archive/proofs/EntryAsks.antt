@@ -55,6 +55,7 @@ module _ (listing : List ℕ) where
   -- What an entry says is asked for its id,
   pub ask_listed : (n m : ℕ) → EntriesRise listing n → m < n → ask_of (asks_of listing n) (id_of listing m) ≡ ask_at listing m
   unfolding asks_of
+  ask_listed zero m r h = elim h [ ]
   ask_listed (suc n) m r h = at (ℕ_discrete m n) (ask_listed n m (rise_less listing n r (omega arith)))
     where
       at : Dec (m ≡ n) → (m < n → ask_of (asks_of listing n) (id_of listing m) ≡ ask_at listing m)

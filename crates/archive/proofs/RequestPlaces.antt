@@ -31,6 +31,7 @@ entry_bytes listing m = 3 ∷ 0 ∷ 3 ∷ id_of listing m ∷ k_of listing m ∷
 -- Among the fields of the first n entries, an entry's stands behind those before it, six bytes each.
 entry_from : (listing : List ℕ) (n m : ℕ) → m < n → Stand (listing_fields listing n) (6 * m) (entry_bytes listing m)
 unfolding listing_fields field
+entry_from listing zero m h = elim h [ ]
 entry_from listing (suc n) m h = at (ℕ_discrete m n) (entry_from listing n m)
   where
     at : Dec (m ≡ n) → (m < n → Stand (listing_fields listing n) (6 * m) (entry_bytes listing m))

@@ -25,6 +25,7 @@ module _ (s : List ℕ) where
   -- Owner k of them.
   pub owner_below : (n k : ℕ) → k < n → get_or (owners_below s n) k 0 ≡ told_owner s k
   unfolding owners_below
+  owner_below zero k h = elim h [ ]
   owner_below (suc n) k h = by (ℕ_discrete k n) (owner_below n k)
     where
       by : Dec (k ≡ n) → (k < n → get_or (owners_below s n) k 0 ≡ told_owner s k) → get_or (owners_below s n ++ (told_owner s n ∷ [])) k 0 ≡ told_owner s k

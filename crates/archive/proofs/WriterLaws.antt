@@ -94,6 +94,7 @@ module _ (listing : List ℕ) where
   -- The ids of entries that rise are below the next one's floor,
   pub rise_below : (n m : ℕ) → EntriesRise listing n → m < n → id_of listing m < floor_of n
   unfolding floor_of
+  rise_below zero m r h = elim h [ ]
   rise_below (suc n) m r h = at (ℕ_discrete m n) (rise_below n m (rise_less n r (omega arith)))
     where
       at : Dec (m ≡ n) → (m < n → id_of listing m < floor_of n) → id_of listing m < suc (id_of listing n)

@@ -42,6 +42,7 @@ reach_last (suc k) n plan = at (longer n plan) (λ q. reach_last k (suc n) q)
 -- Past a slot that cannot be given nothing is reached.
 reach_past : (k n : ℕ) (plan p : Plan) → reach_from k n plan ≡ some p → longer (n + k) p ≡ none → (m : ℕ) → k < m → reach_from m n plan ≡ none
 unfolding onward
+reach_past k n plan p e h zero l = elim l [ ]
 reach_past k n plan p e h (suc m) l = at (ℕ_discrete m k) (λ q. reach_past k n plan p e h m q)
   where
     at : Dec (m ≡ k) → (k < m → reach_from m n plan ≡ none) → reach_from (suc m) n plan ≡ none

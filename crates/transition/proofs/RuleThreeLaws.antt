@@ -107,6 +107,7 @@ module _ (start : List Entry) (len : length start ≡ IDS) where
 
   -- One run of owners is by rule 3.
   pub owners_one : (a b : List ℕ) (n : ℕ) → ByRuleThree start a n → ByRuleThree start b n → (k : ℕ) → k < n → get_or a k 0 ≡ get_or b k 0
+  owners_one a b zero p q k l = elim l [ ]
   owners_one a b (suc n) p q k l = at (ℕ_discrete k n) (owners_one a b n (λ m h. p m (omega arith)) (λ m h. q m (omega arith)))
     where
       at : Dec (k ≡ n) → ((m : ℕ) → m < n → get_or a m 0 ≡ get_or b m 0) → get_or a k 0 ≡ get_or b k 0

@@ -1,0 +1,52 @@
+-- The invariant: it is answered whether each of the owners below n is 0 to 31. Assumes nothing.
+use borrow.Author.Tests.{le-ltb, lt-ltb}
+use lib.Dec.{ltb}
+use mathlib.Core.Bool.{Bool, true, false, ◌&&◌}
+use mathlib.Core.List.{List}
+use mathlib.Core.Logic.{⊎_elim}
+use mathlib.Core.Path.{◌≡◌, refl, sym, ◌∙◌}
+use native.Mathlib.Omega.{arith}
+use Prim.Native.Nat.{ℕ, ◌+◌, ◌-◌, ◌≤◌}
+use Rattle.archive.specs.AnswerRead.{are_owners}
+use Rattle.records.specs.Request.{content_at}
+use Rattle.slots.specs.Below.{every}
+use Rattle.slots.specs.Limits.{IDS}
+use Rattle.timetable.proofs.ScanLaws.{every_end, every_next}
+use Rattle.archive.proofs.answer.are_owners.Goals as goal
+use Rattle.archive.proofs.answer.are_owners.Goals.{then-s-n-ge-IDS, else-s-n-ge-IDS}
+
+-- Owner k is 0 to 31.
+abbrev test : List ℕ → ℕ → Bool
+test s k = ltb (content_at s 4 k) IDS
+
+-- One that is not makes the answer no, and one that is leaves it.
+and-false : (b : Bool) → false ≡ (b && false)
+and-false true = refl
+and-false false = refl
+
+and-true : (b : Bool) → b ≡ (b && true)
+and-true true = refl
+and-true false = refl
+
+pub loop-n-init : goal.loop-n-init
+unfolding every
+loop-n-init c = (omega arith, refl)
+
+pub loop-n-preserved : goal.loop-n-preserved
+unfolding content_at
+loop-n-preserved c =
+    let l = c.loop-n in
+    let a = c.args in (
+      omega arith,
+      elim c.if-s-n-ge-IDS.branch [
+        | then-s-n-ge-IDS w ↦ every_next (test a.s.now) l.n _ l.are false (w.are-is ∙ and-false l.are) l.invariant.1 (sym (le-ltb _ _ w.if-s-n-ge-IDS.true))
+        | else-s-n-ge-IDS w ↦ every_next (test a.s.now) l.n _ l.are true (w.are-is ∙ and-true l.are) l.invariant.1 (sym (lt-ltb _ _ w.if-s-n-ge-IDS.false))
+      ],
+    )
+
+pub returns : goal.returns
+unfolding are_owners
+returns c =
+    let a = c.args in
+    let l = c.loop-n in
+    every_end (test a.s.now) a.size l.n _ c.loop-n-test.false l.invariant.0 l.invariant.1

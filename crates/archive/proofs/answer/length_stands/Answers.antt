@@ -1,0 +1,15 @@
+-- The form is tested first, then the length. Assumes nothing.
+use borrow.Author.Rules.{rules}
+use borrow.Author.Tests.{not-false, not-true}
+use lib.Dec.{leb}
+use mathlib.Core.Path.{sym, ap, ◌∙◌}
+use Rattle.slots.specs.Limits.{LONGEST}
+use mathlib.Core.Bool.{not}
+use Rattle.archive.proofs.answer.length_stands.Goals as goal
+
+pub returns-then-not-is_field : goal.returns-then-not-is_field
+returns-then-not-is_field c = sym (rw (sym c.is_field.ensures ∙ not-true _ (ap not c.if-not-is_field.true)))
+
+pub returns : goal.returns
+returns c =
+    ap (λ n. leb n LONGEST) c.told_length.ensures ∙ sym (rw (sym c.is_field.ensures ∙ not-false _ (ap not c.if-not-is_field.false)))

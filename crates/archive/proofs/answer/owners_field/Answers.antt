@@ -1,0 +1,17 @@
+-- The step is the one of owners that stand, or the refusal. Assumes nothing.
+use borrow.Author.Rules.{rules}
+use borrow.Author.Tests.{not-false, not-true}
+use mathlib.Core.Path.{sym, ◌∙◌}
+use Rattle.archive.specs.AnswerRead.{owners_field}
+use mathlib.Core.Bool.{not}
+use mathlib.Core.Path.{ap}
+use Rattle.archive.proofs.answer.owners_field.Goals as goal
+
+pub returns-then-not-owners_stand : goal.returns-then-not-owners_stand
+unfolding owners_field
+returns-then-not-owners_stand c = c.refused_at.ensures ∙ sym (rw (sym c.owners_stand.ensures ∙ not-true _ (ap not c.if-not-owners_stand.true)))
+
+pub returns : goal.returns
+unfolding owners_field
+returns c =
+    rw c.told_length-size.ensures (sym (rw (sym c.owners_stand.ensures ∙ not-false _ (ap not c.if-not-owners_stand.false))))

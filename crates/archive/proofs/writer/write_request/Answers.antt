@@ -1,0 +1,37 @@
+-- A refusal of what is handed over is returned; else there is an entry for each three bytes, and the area decides. Assumes nothing.
+use borrow.Author.Rules.{rules}
+use lib.ListN.{length}
+use mathlib.Core.Path.{◌≡◌, sym, ◌∙◌}
+use native.Mathlib.Omega.{arith}
+use Prim.Native.Nat.{◌/◌}
+use Rattle.archive.proofs.HandedLaws.{HandedWhole, whole_handed, write_refused, write_small, write_whole}
+use Rattle.archive.proofs.WriterLaws.{rise_few}
+use Rattle.archive.proofs.writer.write_request.Goals as goal
+
+pub returns-in-Refused : goal.returns-in-Refused
+returns-in-Refused c = write_refused _ _ _ _ _ (sym c.check_request-handed.ensures ∙ c.in-Refused.is)
+
+pub overflow_add-size : goal.overflow_add-size
+overflow_add-size c =
+    let handed : HandedWhole c.args.slot c.args.limit
+    c.args.listing.now =
+        whole_handed _ _ _ (sym c.check_request-handed.ensures ∙ c.in_default.is) in
+    let w = handed in omega (arith, w.end, rise_few _ _ w.rise)
+
+pub returns-then-area-size : goal.returns-then-area-size
+returns-then-area-size c =
+    let handed : HandedWhole c.args.slot c.args.limit
+    c.args.listing.now =
+        whole_handed _ _ _ (sym c.check_request-handed.ensures ∙ c.in_default.is) in
+    let w = handed in write_small _ _ _ _ w.n w.in_range w.rise w.end (omega (arith, w.end))
+
+pub returns : goal.returns
+returns c =
+    let handed : HandedWhole c.args.slot c.args.limit
+    c.args.listing.now =
+        whole_handed _ _ _ (sym c.check_request-handed.ensures ∙ c.in_default.is) in
+    let w = handed in
+    let a = c.args in
+    let n : length a.listing.now / 3 ≡ w.n = omega (arith, w.end) in
+    let g = write_whole a.slot a.limit a.listing.now a.area.now w.n w.in_range w.rise w.end (omega (arith, w.end)) in
+    (rw n g.0, c.put_request.ensures ∙ rw n g.1)
