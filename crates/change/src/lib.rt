@@ -24,7 +24,7 @@ pub struct Answer {
 }
 
 // What is decided of a request, without the timetable: a number, its place and the lengths searched; and where it is accepted the request slot, the transition's length, the base and the offsets.
-#[derive(Drop)]
+#[derive(Clone, Copy)]
 pub struct Decided {
     pub number: u8,
     pub place: usize,

@@ -60,7 +60,7 @@ pub struct Listing {
 }
 
 // The request slot, T and what is asked for each id.
-#[derive(Drop)]
+#[derive(Clone, Copy)]
 pub struct Request {
     pub slot: CoreSlot,
     pub limit: u8,
@@ -68,7 +68,7 @@ pub struct Request {
 }
 
 // A request as it was read. Where it was refused it asks for nothing.
-#[derive(Drop)]
+#[derive(Clone, Copy)]
 pub struct ReadRequest {
     pub reading: Reading,
     pub request: Request,

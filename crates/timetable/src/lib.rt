@@ -38,7 +38,7 @@ impl Entry {
 }
 
 // The request slot, the transition's length and owners, the base, and for each id an entry and its start, the shortfall at the request slot.
-#[derive(Drop)]
+#[derive(Clone, Copy)]
 pub struct Timetable {
     pub request: CoreSlot,
     pub length: u8,

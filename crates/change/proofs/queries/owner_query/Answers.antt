@@ -1,0 +1,11 @@
+-- `owner_query` asks about the columns of the entries, which hold them. Assumes nothing.
+use borrow.Author.Rules.{rules}
+use mathlib.Core.Path.{ap, ◌∙◌}
+use Rattle.change.specs.Queries.{owner_query}
+use Rattle.timetable.proofs.ColumnLaws.{of_columns_lem}
+use Rattle.timetable.specs.declared.Timetable.{Timetable}
+use Rattle.change.proofs.queries.owner_query.Goals as goal
+
+pub returns : goal.returns
+returns c =
+    c.owner_of_columns.ensures ∙ ap (λ (x : Timetable). owner_query x c.args.slot) (of_columns_lem _ _ _ _ c.args.t c.split.ensures)
