@@ -1,5 +1,6 @@
 // The library as a C program on the board calls it. A timetable is an image of 337 bytes, and each function returns a number of docs/RULES.md 7.1.
 #![tactic(auto)]
+
 ghost use Rattle.std.specs.Prelude.{◌≡◌};
 ghost use Rattle.archive.specs.AnswerRead.{field_at};
 ghost use Rattle.board.specs.Archive.{AnswerTold, FieldTold, RequestTold};
@@ -24,8 +25,7 @@ pub const IMAGE: usize = 337;
 pub const SCHEDULE: usize = 129;
 
 // Makes the image of the empty timetable.
-#[unsafe(no_mangle)]
-pub extern "C" fn tarnflaw_empty(image: &mut [u8]) -> u8
+pub fn tarnflaw_empty(image: &mut [u8]) -> u8
     ensures { (result ≡ empty_number image.old) × (image.new ≡ empty_image image.old) }
 {
     if image.len() != IMAGE {
@@ -50,8 +50,7 @@ pub extern "C" fn tarnflaw_empty(image: &mut [u8]) -> u8
 }
 
 // The image's timetable is changed by a request, and the answer written to the area; or a refusal leaves every byte of both.
-#[unsafe(no_mangle)]
-pub extern "C" fn tarnflaw_change(
+pub fn tarnflaw_change(
     image: &mut [u8],
     request: &[u8],
     area: &mut [u8],
@@ -75,8 +74,7 @@ pub extern "C" fn tarnflaw_change(
 }
 
 // The owner of a slot, or 255 for idle.
-#[unsafe(no_mangle)]
-pub extern "C" fn tarnflaw_owner(image: &[u8], slot: u64, place: &mut usize, owner: &mut u8) -> u8
+pub fn tarnflaw_owner(image: &[u8], slot: u64, place: &mut usize, owner: &mut u8) -> u8
     ensures { OwnerTold (image_owner image.now slot) result place.new owner.new }
 {
     if image.len() != IMAGE {
@@ -91,8 +89,7 @@ pub extern "C" fn tarnflaw_owner(image: &[u8], slot: u64, place: &mut usize, own
 }
 
 // The shortfall of an id at a slot's start, and the slices it has had from the request slot up to there.
-#[unsafe(no_mangle)]
-pub extern "C" fn tarnflaw_standing(
+pub fn tarnflaw_standing(
     image: &[u8],
     id: u8,
     slot: u64,
@@ -116,8 +113,7 @@ pub extern "C" fn tarnflaw_standing(
 }
 
 // What an archived answer says is written to the area; or a refusal leaves every byte of it.
-#[unsafe(no_mangle)]
-pub extern "C" fn tarnflaw_read_answer(answer: &[u8], area: &mut [u8], place: &mut usize) -> u8
+pub fn tarnflaw_read_answer(answer: &[u8], area: &mut [u8], place: &mut usize) -> u8
     ensures { AnswerTold answer.now area.old result place.new area.new }
 {
     let read = archive::reader::read_answer(answer);
@@ -140,8 +136,7 @@ pub extern "C" fn tarnflaw_read_answer(answer: &[u8], area: &mut [u8], place: &m
 }
 
 // A request is written to the area; or a refusal leaves every byte of it.
-#[unsafe(no_mangle)]
-pub extern "C" fn tarnflaw_write_request(
+pub fn tarnflaw_write_request(
     slot: u64,
     limit: u8,
     listing: &[u8],
@@ -158,8 +153,7 @@ pub extern "C" fn tarnflaw_write_request(
 }
 
 // What stands at a place of an archived answer. The place moves on behind it, unless nothing is left there or it is refused.
-#[unsafe(no_mangle)]
-pub extern "C" fn tarnflaw_answer_field(
+pub fn tarnflaw_answer_field(
     answer: &[u8],
     at: &mut usize,
     place: &mut usize,

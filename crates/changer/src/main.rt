@@ -18,14 +18,14 @@ struct Controller {
     put: usize,
 }
 
-fn main() {
+fn main(rt: HostRuntime) {
     let mut input = io::large_buffer();
     let mut out = io::large_buffer();
-    run(&mut input, &mut out);
+    run(&rt, &mut input, &mut out);
 }
 
 // Answers requests until the input is over, and tells how much output still waits: nothing. A proved loop has to end: this one would at the largest ordinal, which no run reaches.
-fn run(input: &mut [u8], out: &mut [u8]) -> usize
+fn run(rt: &HostRuntime, input: &mut [u8], out: &mut [u8]) -> usize
     requires { LINE_ROOM ≤ length out.old }
     ensures { (result ≡ 0) × Answers input.old out.old input.new out.new }
 {
@@ -34,14 +34,14 @@ fn run(input: &mut [u8], out: &mut [u8]) -> usize
         ordinal: 1,
         put: 0,
     };
-    let mut p = stream::next_frame(0, 0, 0, input, out);
+    let mut p = stream::next_frame(rt, 0, 0, 0, input, out);
     while s.ordinal < u64::MAX && p.open {
         let content = p.from + HEADER;
         let end = p.end;
         s = answered(s, &input[content..end], p.put, out);
-        p = stream::next_frame(end, p.to, s.put, input, out);
+        p = stream::next_frame(rt, end, p.to, s.put, input, out);
     }
-    stream::flush(out, p.put)
+    stream::flush(rt, out, p.put)
 }
 
 // A request is answered, and its line put into the output. The timetable is sound, as the empty one is and each that a change returns, so it is not tested again.

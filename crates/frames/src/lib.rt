@@ -1,5 +1,6 @@
 // The frames that a program reads and the lines that it prints, over buffers that the caller keeps. A frame with another tag or a content above 4,096 bytes is refused.
 #![tactic(auto)]
+
 ghost use Rattle.std.specs.Prelude.{drop, length, take, [], ◌∷◌, ◌++◌, ◌≡◌, ◌+◌, ◌-◌, ◌≤◌};
 ghost use Rattle.std.proofs.lemmas.List.Edits.{sets};
 ghost use Rattle.frames.specs.Coded.{LINE_ROOM, NUMBER_ROOM, Puts, head_of};

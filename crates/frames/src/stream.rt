@@ -4,7 +4,7 @@ ghost use Rattle.frames.specs.Buffers.{Awaited, Inside, Reached, Waits, line_at,
 ghost use Rattle.frames.specs.Coded.{LINE_ROOM};
 
 use crate::{HEADER, Head, LINE_ROOM};
-use libc::{STDIN_FILENO, STDOUT_FILENO};
+use std::io::{Read, Write};
 
 // Whether a whole frame stands ahead, from `from` up to `end`; the input read, up to `to`; and the output that waits, up to `put`. If none does, the input is over.
 #[derive(Clone, Copy)]
@@ -25,7 +25,14 @@ enum Next {
 }
 
 // Waits until a whole frame stands ahead, with room for a line in the output, or the input is over. While a part of one does, what waits is printed, and more input is read behind the part.
-pub fn next_frame(from: usize, to: usize, put: usize, input: &mut [u8], out: &mut [u8]) -> Places
+pub fn next_frame(
+    rt: &HostRuntime,
+    from: usize,
+    to: usize,
+    put: usize,
+    input: &mut [u8],
+    out: &mut [u8],
+) -> Places
     requires { Reached from to put (length input.old) (length out.old) }
     ensures inside { Inside result (length input.new) (length out.new) }
     ensures awaited { Awaited from to put input.old out.old input.new out.new result }
@@ -40,18 +47,18 @@ pub fn next_frame(from: usize, to: usize, put: usize, input: &mut [u8], out: &mu
                     from: first,
                     end: first + HEADER + size,
                     to: last,
-                    put: room(out, waits),
+                    put: room(rt, out, waits),
                     open: true,
                 };
             }
-            Next::Bad => return ended(first, last, waits, out),
+            Next::Bad => return ended(rt, first, last, waits, out),
             Next::Part => {
                 let part = last - first;
-                waits = flush(out, waits);
-                last = read_behind(input, first, last);
+                waits = flush(rt, out, waits);
+                last = read_behind(rt, input, first, last);
                 first = 0;
                 if last == part {
-                    return ended(first, last, waits, out);
+                    return ended(rt, first, last, waits, out);
                 }
             }
         }
@@ -79,23 +86,25 @@ fn ahead(input: &[u8], from: usize, to: usize) -> Next
 }
 
 // The part of a frame between two places moves to the front, and more input is read once behind it; tells up to where. A read that fails ends the input.
-fn read_behind(input: &mut [u8], from: usize, to: usize) -> usize
+fn read_behind(rt: &HostRuntime, input: &mut [u8], from: usize, to: usize) -> usize
     requires { (from ≤ to) × (to ≤ length input.old) }
     ensures lower_bound { (to - from ≤ result) × (result ≤ length input.old) }
     ensures input_after { take (to - from) input.new ≡ unread input.old from to }
 {
     let kept = crate::keep_rest(input, from, to);
-    let got = libc::read(STDIN_FILENO, &mut input[kept..]);
-    kept + io::count(got, &input[kept..])
+    match rt.stdin().read(&mut input[kept..]) {
+        Ok(got) => kept + got,
+        Err(_) => kept,
+    }
 }
 
 // The input is over: if something is left of it, `bad frame` is put into the output.
-fn ended(from: usize, to: usize, put: usize, out: &mut [u8]) -> Places
+fn ended(rt: &HostRuntime, from: usize, to: usize, put: usize, out: &mut [u8]) -> Places
     requires { (put ≤ length out.old) × (LINE_ROOM ≤ length out.old) }
     ensures put_in_bounds { (result.put ≤ length out.old) × (result ≡ over_at from to result.put) }
     ensures waits { Waits (ltb 0 (to - from)) (line_at put (length out.old)) out.old out.new result.put }
 {
-    let at = room(out, put);
+    let at = room(rt, out, put);
     let end = if from < to {
         crate::write_bad_frame(out, at)
     } else {
@@ -111,21 +120,21 @@ fn ended(from: usize, to: usize, put: usize, out: &mut [u8]) -> Places
 }
 
 // Where a line can be put: behind what waits, or at the front once that is printed.
-fn room(out: &[u8], put: usize) -> usize
+fn room(rt: &HostRuntime, out: &[u8], put: usize) -> usize
     requires { (put ≤ length out.now) × (LINE_ROOM ≤ length out.now) }
     ensures { (result + LINE_ROOM ≤ length out.now) × (result ≡ line_at put (length out.now)) }
 {
     if LINE_ROOM <= out.len() - put {
         return put;
     }
-    flush(out, put)
+    flush(rt, out, put)
 }
 
 // Prints what waits in the output, and tells where the next text goes. What cannot be written is lost.
-pub fn flush(out: &[u8], put: usize) -> usize
+pub fn flush(rt: &HostRuntime, out: &[u8], put: usize) -> usize
     requires { put ≤ length out.now }
     ensures { result ≡ 0 }
 {
-    io::write_all(STDOUT_FILENO, &out[..put]);
+    let _lost = rt.stdout().write_all(&out[..put]);
     0
 }

@@ -13,10 +13,10 @@ enum Form {
 }
 
 // One byte.
-pub fn print_byte(out: &mut [u8], put: usize, byte: u8) -> usize
+pub fn print_byte(rt: &HostRuntime, out: &mut [u8], put: usize, byte: u8) -> usize
     ensures { result ≤ length out.old }
 {
-    let at = room(out, put);
+    let at = room(rt, out, put);
     if out.len() <= at {
         return at;
     }
@@ -25,32 +25,32 @@ pub fn print_byte(out: &mut [u8], put: usize, byte: u8) -> usize
 }
 
 // Where a byte can be put: behind what waits, or at the front once that is printed.
-fn room(out: &[u8], put: usize) -> usize
+fn room(rt: &HostRuntime, out: &[u8], put: usize) -> usize
     ensures upper_bound { result ≤ length out.now }
     ensures value { (put < length out.now → result ≡ put) × (length out.now ≤ put → result ≡ 0) }
 {
     if put < out.len() {
         return put;
     }
-    stream::flush(out, out.len())
+    stream::flush(rt, out, out.len())
 }
 
 // A text as it is.
-pub fn print_text(out: &mut [u8], put: usize, text: &[u8]) -> usize
+pub fn print_text(rt: &HostRuntime, out: &mut [u8], put: usize, text: &[u8]) -> usize
     ensures { result ≤ length out.old }
 {
-    print_all(out, put, text, Form::Text)
+    print_all(rt, out, put, text, Form::Text)
 }
 
 // Bytes in a form.
-fn print_all(out: &mut [u8], put: usize, bytes: &[u8], form: Form) -> usize
+fn print_all(rt: &HostRuntime, out: &mut [u8], put: usize, bytes: &[u8], form: Form) -> usize
     ensures { result ≤ length out.old }
 {
     let mut at = reading::least(put, out.len());
     let mut i = 0;
     while i < bytes.len() {
         let run = run_in(bytes, i, form);
-        at = print_run(out, at, bytes[i], run, form);
+        at = print_run(rt, out, at, bytes[i], run, form);
         i += run;
     }
     at
@@ -69,58 +69,58 @@ fn run_in(bytes: &[u8], from: usize, form: Form) -> usize
 }
 
 // A byte in a form, and behind a 0 that is packed how many there are.
-fn print_run(out: &mut [u8], put: usize, byte: u8, run: usize, form: Form) -> usize
+fn print_run(rt: &HostRuntime, out: &mut [u8], put: usize, byte: u8, run: usize, form: Form) -> usize
     ensures { result ≤ length out.old }
 {
     match form {
-        Form::Text => print_byte(out, put, byte),
-        Form::Hex => print_hex(out, put, byte),
-        Form::Packed => print_packed(out, put, byte, run),
+        Form::Text => print_byte(rt, out, put, byte),
+        Form::Hex => print_hex(rt, out, put, byte),
+        Form::Packed => print_packed(rt, out, put, byte, run),
     }
 }
 
 // A number in decimal, behind a space.
-pub fn print_number(out: &mut [u8], put: usize, n: u64) -> usize
+pub fn print_number(rt: &HostRuntime, out: &mut [u8], put: usize, n: u64) -> usize
     ensures { result ≤ length out.old }
 {
-    let at = print_byte(out, put, b' ');
-    print_decimal(out, at, n)
+    let at = print_byte(rt, out, put, b' ');
+    print_decimal(rt, out, at, n)
 }
 
 // A number in decimal.
-fn print_decimal(out: &mut [u8], put: usize, n: u64) -> usize
+fn print_decimal(rt: &HostRuntime, out: &mut [u8], put: usize, n: u64) -> usize
     ensures { result ≤ length out.old }
 {
     let mut digits = [0u8; 20];
     let count = io::decimal(n, &mut digits);
-    print_text(out, put, &digits[..count])
+    print_text(rt, out, put, &digits[..count])
 }
 
 // What every answer begins with: its word, number and place.
-pub fn print_answer(out: &mut [u8], put: usize, word: &[u8], number: u8, place: usize) -> usize
+pub fn print_answer(rt: &HostRuntime, out: &mut [u8], put: usize, word: &[u8], number: u8, place: usize) -> usize
     ensures { result ≤ length out.old }
 {
-    let at = print_text(out, put, word);
-    print_two(out, at, number as u64, place as u64)
+    let at = print_text(rt, out, put, word);
+    print_two(rt, out, at, number as u64, place as u64)
 }
 
 // Two numbers.
-pub fn print_two(out: &mut [u8], put: usize, one: u64, other: u64) -> usize
+pub fn print_two(rt: &HostRuntime, out: &mut [u8], put: usize, one: u64, other: u64) -> usize
     ensures { result ≤ length out.old }
 {
-    let at = print_number(out, put, one);
-    print_number(out, at, other)
+    let at = print_number(rt, out, put, one);
+    print_number(rt, out, at, other)
 }
 
 // An image behind a space, packed, in hexadecimal; `-` for no bytes.
-pub fn print_image(out: &mut [u8], put: usize, image: &[u8]) -> usize
+pub fn print_image(rt: &HostRuntime, out: &mut [u8], put: usize, image: &[u8]) -> usize
     ensures { result ≤ length out.old }
 {
     if image.len() == 0 {
-        return print_text(out, put, b" -");
+        return print_text(rt, out, put, b" -");
     }
-    let at = print_byte(out, put, b' ');
-    print_all(out, at, image, Form::Packed)
+    let at = print_byte(rt, out, put, b' ');
+    print_all(rt, out, at, image, Form::Packed)
 }
 
 // How many bytes the next packed ones stand for: a run of zeros, at most 255, or one byte that is not 0.
@@ -143,22 +143,22 @@ fn run_at(image: &[u8], from: usize) -> usize
 }
 
 // A byte in hexadecimal, and behind a 0 how many there are.
-fn print_packed(out: &mut [u8], put: usize, byte: u8, run: usize) -> usize
+fn print_packed(rt: &HostRuntime, out: &mut [u8], put: usize, byte: u8, run: usize) -> usize
     ensures { result ≤ length out.old }
 {
-    let at = print_hex(out, put, byte);
+    let at = print_hex(rt, out, put, byte);
     if byte != 0 {
         return at;
     }
-    print_hex(out, at, (run % 256) as u8)
+    print_hex(rt, out, at, (run % 256) as u8)
 }
 
 // A byte in hexadecimal.
-fn print_hex(out: &mut [u8], put: usize, byte: u8) -> usize
+fn print_hex(rt: &HostRuntime, out: &mut [u8], put: usize, byte: u8) -> usize
     ensures { result ≤ length out.old }
 {
-    let at = print_byte(out, put, digit(byte / 16));
-    print_byte(out, at, digit(byte))
+    let at = print_byte(rt, out, put, digit(byte / 16));
+    print_byte(rt, out, at, digit(byte))
 }
 
 // The last hexadecimal digit of a number.
@@ -170,14 +170,14 @@ fn digit(n: u8) -> u8
 }
 
 // An area behind a space: the bytes up to the last that differs from its pattern, in hexadecimal, then `+` and how many follow.
-pub fn print_area(out: &mut [u8], put: usize, area: &[u8], content: &[u8], pattern: usize) -> usize
+pub fn print_area(rt: &HostRuntime, out: &mut [u8], put: usize, area: &[u8], content: &[u8], pattern: usize) -> usize
     ensures { result ≤ length out.old }
 {
     let end = touched(area, content, pattern);
-    let a = print_byte(out, put, b' ');
-    let b = print_all(out, a, &area[0..end], Form::Hex);
-    let c = print_byte(out, b, b'+');
-    print_decimal(out, c, (area.len() - end) as u64)
+    let a = print_byte(rt, out, put, b' ');
+    let b = print_all(rt, out, a, &area[0..end], Form::Hex);
+    let c = print_byte(rt, out, b, b'+');
+    print_decimal(rt, out, c, (area.len() - end) as u64)
 }
 
 // Where the last byte ends that differs from the pattern.

@@ -17,19 +17,18 @@ const LIMIT_AT: usize = 9;
 const LISTING_AT: usize = 10;
 
 // An answer is read into an area of the length and pattern that follow it.
-pub fn answer(content: &[u8], out: &mut [u8], put: usize, area: &mut [u8]) -> usize
+pub fn answer(rt: &HostRuntime, content: &[u8], out: &mut [u8], put: usize, area: &mut [u8]) -> usize
     ensures { result ≤ length out.old }
 {
     let from = after(content, RECORD_AT, 2);
     let end = from + length_at(content, RECORD_AT, content.len() - from);
     let size = length_at(content, end, area.len());
     fill_area(content, after(content, end, 2), &mut area[0..size]);
-    answered(content, from, end, out, put, &mut area[0..size])
+    answered(rt, content, from, end, out, put, &mut area[0..size])
 }
 
 // The answer between two places of the content, on an area that is filled with the pattern, which stands two bytes behind the answer.
-fn answered(
-    content: &[u8],
+fn answered(rt: &HostRuntime, content: &[u8],
     from: usize,
     end: usize,
     out: &mut [u8],
@@ -41,24 +40,23 @@ fn answered(
 {
     let mut place = 0;
     let number = board::tarnflaw_read_answer(&content[from..end], area, &mut place);
-    let at = print_answer(out, put, b"answer", number, place);
-    print_area(out, at, area, content, after(content, end, 2))
+    let at = print_answer(rt, out, put, b"answer", number, place);
+    print_area(rt, out, at, area, content, after(content, end, 2))
 }
 
 // A request is written into an area of the length and pattern that follow its listing.
-pub fn request(content: &[u8], out: &mut [u8], put: usize, area: &mut [u8]) -> usize
+pub fn request(rt: &HostRuntime, content: &[u8], out: &mut [u8], put: usize, area: &mut [u8]) -> usize
     ensures { result ≤ length out.old }
 {
     let from = after(content, LISTING_AT, 2);
     let end = from + length_at(content, LISTING_AT, content.len() - from);
     let size = length_at(content, end, area.len());
     fill_area(content, after(content, end, 2), &mut area[0..size]);
-    written(content, from, end, out, put, &mut area[0..size])
+    written(rt, content, from, end, out, put, &mut area[0..size])
 }
 
 // The request whose listing stands between two places of the content, on an area that is filled with the pattern, which stands two bytes behind the listing.
-fn written(
-    content: &[u8],
+fn written(rt: &HostRuntime, content: &[u8],
     from: usize,
     end: usize,
     out: &mut [u8],
@@ -74,13 +72,13 @@ fn written(
     let mut place = 0;
     let mut bytes = 0;
     let number = board::tarnflaw_write_request(slot, limit, listing, area, &mut place, &mut bytes);
-    let a = print_answer(out, put, b"request", number, place);
-    let b = print_number(out, a, bytes as u64);
-    print_area(out, b, area, content, after(content, end, 2))
+    let a = print_answer(rt, out, put, b"request", number, place);
+    let b = print_number(rt, out, a, bytes as u64);
+    print_area(rt, out, b, area, content, after(content, end, 2))
 }
 
 // What stands at a place of an answer. The reader's place follows the answer.
-pub fn field(content: &[u8], out: &mut [u8], put: usize) -> usize
+pub fn field(rt: &HostRuntime, content: &[u8], out: &mut [u8], put: usize) -> usize
     ensures { result ≤ length out.old }
 {
     let from = after(content, RECORD_AT, 2);
@@ -99,7 +97,7 @@ pub fn field(content: &[u8], out: &mut [u8], put: usize) -> usize
         &mut first,
         &mut second,
     );
-    let a = print_answer(out, put, b"field", number, place);
-    let b = print_two(out, a, tag as u64, first as u64);
-    print_two(out, b, second as u64, at as u64)
+    let a = print_answer(rt, out, put, b"field", number, place);
+    let b = print_two(rt, out, a, tag as u64, first as u64);
+    print_two(rt, out, b, second as u64, at as u64)
 }

@@ -1,0 +1,15 @@
+-- `frames::put_text` meets its contract. The invariant: the buffer is what it was with the text's first i bytes put in from `at` on. The measure is what is left of the text.
+-- Assumes nothing.
+use lib.ListN.{length, length-set, take}
+use lib.Seq.{sets, take-length}
+use mathlib.Core.Path.{◌≡◌, refl, ap, ◌∙◌}
+use native.Mathlib.Omega.{arith}
+use Prim.Native.Nat.{ℕ, ◌+◌, ◌-◌, ◌≤◌, zero-le}
+use Rattle.records.proofs.SetsLaws.{sets_next}
+use Rattle.frames.proofs.put_text.Given as goal
+
+abbrev pub invariant-loop-i : goal.invariant-loop-i
+invariant-loop-i l = (l.i ≤ length l.text) × (l.out ≡ sets l.initial.out l.at (take l.i l.text)) × (length l.out ≡ length l.initial.out)
+
+abbrev pub decreases-loop-i : goal.decreases-loop-i
+decreases-loop-i l = length l.text - l.i
