@@ -92,9 +92,17 @@ fn read_behind(rt: &HostRuntime, input: &mut [u8], from: usize, to: usize) -> us
     ensures input_after { take (to - from) input.new ≡ unread input.old from to }
 {
     let kept = crate::keep_rest(input, from, to);
-    match rt.stdin().read(&mut input[kept..]) {
-        Ok(got) => kept + got,
-        Err(_) => kept,
+    let got = read_some(rt, &mut input[kept..]);
+    kept + got
+}
+
+// Reads once, and tells how many bytes came: none where the read fails.
+fn read_some(rt: &HostRuntime, to: &mut [u8]) -> usize
+    ensures { result ≤ length to.old }
+{
+    match rt.stdin().read(to) {
+        Ok(got) => got,
+        Err(_) => 0,
     }
 }
 

@@ -10,28 +10,28 @@ pub put_text-end-requires : goal.put_text-end-requires
 put_text-end-requires c =
     let few : c.decimal-count.result ≤ 20 =
         let d = c.decimal-count in
-    few_digits c.args.n d.result c.ranges.n.fits d.ensures.1.0 in
+    few_digits c.args.n d.result c.ranges.n.fits d.ensures.len in
     omega (arith, few)
 
 pub bounds-out-end : goal.bounds-out-end
 bounds-out-end c =
     let few : c.decimal-count.result ≤ 20 =
         let d = c.decimal-count in
-    few_digits c.args.n d.result c.ranges.n.fits d.ensures.1.0 in
+    few_digits c.args.n d.result c.ranges.n.fits d.ensures.len in
     omega (arith, few, c.put_text-end.ensures.end, c.put_text-end.auto.out)
 
 pub overflow_add-result : goal.overflow_add-result
 overflow_add-result c =
     let few : c.decimal-count.result ≤ 20 =
         let d = c.decimal-count in
-    few_digits c.args.n d.result c.ranges.n.fits d.ensures.1.0 in
+    few_digits c.args.n d.result c.ranges.n.fits d.ensures.len in
     omega (arith, few, c.put_text-end.ensures.end)
 
 pub returns : goal.returns
 returns c =
     let few : c.decimal-count.result ≤ 20 =
         let d = c.decimal-count in
-    few_digits c.args.n d.result c.ranges.n.fits d.ensures.1.0 in
+    few_digits c.args.n d.result c.ranges.n.fits d.ensures.len in
     let f = c.put_text-end in
     let d = c.decimal-count in
-    let k = few in record { puts = put_number c.args.out.now c.args.at c.args.n d.result c.args.last _ f.new.0 f.result few d.ensures.1.0 d.ensures.1.1 f.ensures; upper_bound = omega (arith, f.ensures.end) }
+    let k = few in record { puts = put_number c.args.out.now c.args.at c.args.n d.result c.args.last _ f.new.out f.result few d.ensures.len d.ensures.digits f.ensures; upper_bound = omega (arith, f.ensures.end) }

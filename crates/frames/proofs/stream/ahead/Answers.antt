@@ -12,14 +12,14 @@ returns-then-to-from-lt-HEADER c =
 pub returns-then-size-to : goal.returns-then-size-to
 returns-then-size-to c =
     let a = c.args in
-    stands_frame a.input.now a.from a.to c.requires.0 c.requires.1 c.if-to-from-lt-HEADER.false c.frame_head.result c.frame_head.ensures _ c.size-1.given.1 c.if-size-to.true
+    stands_frame a.input.now a.from a.to c.requires.0 c.requires.1 c.if-to-from-lt-HEADER.false c.frame_head.result c.frame_head.ensures _ c.in-Content.is c.if-size-to.true
 
 pub returns-else-size-to : goal.returns-else-size-to
 returns-else-size-to c =
     let a = c.args in
-    stands_part a.input.now a.from a.to c.requires.0 c.requires.1 c.if-to-from-lt-HEADER.false c.frame_head.result c.frame_head.ensures _ c.size-1.given.1 c.if-size-to.false
+    stands_part a.input.now a.from a.to c.requires.0 c.requires.1 c.if-to-from-lt-HEADER.false c.frame_head.result c.frame_head.ensures _ c.in-Content.is c.if-size-to.false
 
 pub returns-in-Bad : goal.returns-in-Bad
 returns-in-Bad c =
     let a = c.args in
-    stands_none a.input.now a.from a.to c.requires.0 c.requires.1 c.if-to-from-lt-HEADER.false c.frame_head.result c.frame_head.ensures c.enum_told-1.given.1
+    stands_none a.input.now a.from a.to c.requires.0 c.requires.1 c.if-to-from-lt-HEADER.false c.frame_head.result c.frame_head.ensures c.in-Bad.is

@@ -1,0 +1,18 @@
+-- The invariant: the bytes of the ids below `id` are stored one behind the other. Assumes nothing.
+use borrow.Author.Rules.{rules}
+use lib.ListN.{length, length-set, take}
+use lib.Seq.{sets}
+use mathlib.Core.List.{map}
+use mathlib.Core.Path.{◌≡◌, refl}
+use native.Mathlib.Omega.{arith}
+use Prim.Native.Nat.{◌-◌, ◌≤◌}
+use Rattle.board.proofs.ScheduleLaws.{byte_next, bytes_all}
+use Rattle.board.specs.Archive.{LISTED_AT, listed_byte}
+use Rattle.slots.specs.Limits.{IDS}
+use Rattle.board.proofs.schedule.put_listed.Given as goal
+
+abbrev pub invariant-loop-id : goal.invariant-loop-id
+invariant-loop-id l = (l.id ≤ IDS) × (length l.area ≡ length l.initial.area) × (l.area ≡ sets l.initial.area LISTED_AT (take l.id (map listed_byte l.offsets)))
+
+abbrev pub decreases-loop-id : goal.decreases-loop-id
+decreases-loop-id l = IDS - l.id

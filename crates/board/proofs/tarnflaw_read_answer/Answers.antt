@@ -1,0 +1,22 @@
+-- A refused record tells its refusal; of a whole one the schedule is written, if the area is long enough. Assumes nothing.
+use borrow.Author.Rules.{rules}
+use Rattle.board.proofs.ArchiveLaws.{answer_refused, answer_whole, area_small}
+use Rattle.board.proofs.tarnflaw_read_answer.Goals as goal
+
+pub returns-then-area-lt-SCHEDULE : goal.returns-then-area-lt-SCHEDULE
+returns-then-area-lt-SCHEDULE c =
+    let r = c.read_answer-read in
+    let a = c.args in
+    area_small a.answer.now a.area.now r.result r.ensures c.enum_told-1.given.1 c.if-area-lt-SCHEDULE.true
+
+pub returns-in-Refused : goal.returns-in-Refused
+returns-in-Refused c =
+    let r = c.read_answer-read in
+    let a = c.args in
+    answer_refused a.answer.now a.area.now r.result r.ensures c.reading-1.given.0.0 c.reading-1.given.1
+
+pub returns-else-area-lt-SCHEDULE : goal.returns-else-area-lt-SCHEDULE
+returns-else-area-lt-SCHEDULE c =
+    let r = c.read_answer-read in
+    let a = c.args in
+    answer_whole a.answer.now a.area.now r.result r.ensures c.enum_told-1.given.1 c.put_schedule.new.area c.if-area-lt-SCHEDULE.false c.put_schedule.ensures
