@@ -69,7 +69,14 @@ fn run_in(bytes: &[u8], from: usize, form: Form) -> usize
 }
 
 // A byte in a form, and behind a 0 that is packed how many there are.
-fn print_run(rt: &HostRuntime, out: &mut [u8], put: usize, byte: u8, run: usize, form: Form) -> usize
+fn print_run(
+    rt: &HostRuntime,
+    out: &mut [u8],
+    put: usize,
+    byte: u8,
+    run: usize,
+    form: Form,
+) -> usize
     ensures { result ≤ length out.old }
 {
     match form {
@@ -97,7 +104,14 @@ fn print_decimal(rt: &HostRuntime, out: &mut [u8], put: usize, n: u64) -> usize
 }
 
 // What every answer begins with: its word, number and place.
-pub fn print_answer(rt: &HostRuntime, out: &mut [u8], put: usize, word: &[u8], number: u8, place: usize) -> usize
+pub fn print_answer(
+    rt: &HostRuntime,
+    out: &mut [u8],
+    put: usize,
+    word: &[u8],
+    number: u8,
+    place: usize,
+) -> usize
     ensures { result ≤ length out.old }
 {
     let at = print_text(rt, out, put, word);
@@ -170,7 +184,14 @@ fn digit(n: u8) -> u8
 }
 
 // An area behind a space: the bytes up to the last that differs from its pattern, in hexadecimal, then `+` and how many follow.
-pub fn print_area(rt: &HostRuntime, out: &mut [u8], put: usize, area: &[u8], content: &[u8], pattern: usize) -> usize
+pub fn print_area(
+    rt: &HostRuntime,
+    out: &mut [u8],
+    put: usize,
+    area: &[u8],
+    content: &[u8],
+    pattern: usize,
+) -> usize
     ensures { result ≤ length out.old }
 {
     let end = touched(area, content, pattern);

@@ -9,4 +9,4 @@ returns-then-image-ne-IMAGE c = empty_refused c.args.image.now c.if-image-ne-IMA
 pub returns : goal.returns
 returns c =
     let p = c.put_image in
-    empty_made c.args.image.now c.if-image-ne-IMAGE.false p.new.0 p.ensures
+    empty_made c.args.image.now c.if-image-ne-IMAGE.false p.new.image p.ensures

@@ -7,16 +7,16 @@ pub returns-then-area-lt-SCHEDULE : goal.returns-then-area-lt-SCHEDULE
 returns-then-area-lt-SCHEDULE c =
     let r = c.read_answer-read in
     let a = c.args in
-    area_small a.answer.now a.area.now r.result r.ensures c.enum_told-1.given.1 c.if-area-lt-SCHEDULE.true
+    area_small a.answer.now a.area.now r.result r.ensures c.in-Whole.is c.if-area-lt-SCHEDULE.true
 
 pub returns-in-Refused : goal.returns-in-Refused
 returns-in-Refused c =
     let r = c.read_answer-read in
     let a = c.args in
-    answer_refused a.answer.now a.area.now r.result r.ensures c.reading-1.given.0.0 c.reading-1.given.1
+    answer_refused a.answer.now a.area.now r.result r.ensures c.in-Refused.refusal c.in-Refused.is
 
 pub returns-else-area-lt-SCHEDULE : goal.returns-else-area-lt-SCHEDULE
 returns-else-area-lt-SCHEDULE c =
     let r = c.read_answer-read in
     let a = c.args in
-    answer_whole a.answer.now a.area.now r.result r.ensures c.enum_told-1.given.1 c.put_schedule.new.area c.if-area-lt-SCHEDULE.false c.put_schedule.ensures
+    answer_whole a.answer.now a.area.now r.result r.ensures c.in-Whole.is c.put_schedule.new.area c.if-area-lt-SCHEDULE.false c.put_schedule.ensures

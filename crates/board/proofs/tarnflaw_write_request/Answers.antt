@@ -7,4 +7,4 @@ pub returns : goal.returns
 returns c =
     let w = c.write_request-w in
     let a = c.args in
-    request_told a.slot a.limit a.listing.now a.area.now w.new.1.1.1.0 w.result w.ensures.0 w.ensures.1
+    request_told a.slot a.limit a.listing.now a.area.now w.new.area w.result w.ensures.0 w.ensures.1

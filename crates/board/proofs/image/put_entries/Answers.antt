@@ -27,8 +27,8 @@ loop-id-preserved c =
     let es = from_columns a.periods.now a.offsets.now a.bounds.now a.shortfalls.now in
     let e = r.ensures ∙ sym (columns_at a.periods.now a.offsets.now a.bounds.now a.shortfalls.now l.id (omega arith)) in (
       omega arith,
-      p.auto.0 ∙ l.invariant.1,
-      rising_next _ ENTRY (λ i. entry_length (entry_of es i)) a.image.now l.image p.new.0 ENTRIES_AT _ l.id refl l.invariant.2
+      p.auto.image ∙ l.invariant.1,
+      rising_next _ ENTRY (λ i. entry_length (entry_of es i)) a.image.now l.image p.new.image ENTRIES_AT _ l.id refl l.invariant.2
           (p.ensures ∙ ap (λ (x : Entry). sets l.image (ENTRIES_AT + ENTRY * l.id) (entry_bytes x)) e),
     )
 

@@ -20,8 +20,8 @@ loop-id-preserved c =
     let l = c.loop-id in
     (
       omega arith,
-      p.auto.0 ∙ l.invariant.1,
-      rising_next _ START (start_length c.args.starts.now) c.args.image.now l.image p.new.0 STARTS_AT _ l.id refl l.invariant.2 p.ensures,
+      p.auto.image ∙ l.invariant.1,
+      rising_next _ START (start_length c.args.starts.now) c.args.image.now l.image p.new.image STARTS_AT _ l.id refl l.invariant.2 p.ensures,
     )
 
 pub returns : goal.returns

@@ -21,11 +21,11 @@ loop-id-preserved c =
     (
       omega arith,
       simp length-set l.invariant.1,
-      byte_next listed_byte refl c.args.area.now LISTED_AT c.args.t2 l.area l.id b.result (search rules) l.invariant.2 b.ensures,
+      byte_next listed_byte refl c.args.area.now LISTED_AT c.args.offsets l.area l.id b.result (search rules) l.invariant.2 b.ensures,
     )
 
 pub returns : goal.returns
 returns c =
     let l = c.loop-id in
     let a = c.args in
-    bytes_all listed_byte refl a.area.now LISTED_AT a.t2 l.area l.id (search rules) l.invariant.2
+    bytes_all listed_byte refl a.area.now LISTED_AT a.offsets l.area l.id (search rules) l.invariant.2

@@ -20,11 +20,11 @@ loop-id-preserved c =
     (
       omega arith,
       simp length-set l.invariant.1,
-      byte_next offset_byte refl c.args.area.now OFFSETS_AT c.args.t2 l.area l.id _ (search rules) l.invariant.2 refl,
+      byte_next offset_byte refl c.args.area.now OFFSETS_AT c.args.offsets l.area l.id _ (search rules) l.invariant.2 refl,
     )
 
 pub returns : goal.returns
 returns c =
     let l = c.loop-id in
     let a = c.args in
-    bytes_all offset_byte refl a.area.now OFFSETS_AT a.t2 l.area l.id (search rules) l.invariant.2
+    bytes_all offset_byte refl a.area.now OFFSETS_AT a.offsets l.area l.id (search rules) l.invariant.2
