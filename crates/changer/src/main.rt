@@ -1,5 +1,6 @@
 // The program: frames of requests from standard input, a line for each to standard output, in bounded memory. A bad frame ends it.
 #![tactic(auto)]
+
 ghost use Rattle.std.specs.Prelude.{length, true, ◌≡◌, ◌+◌, ◌-◌, ◌^◌, ◌≤◌, ◌<◌};
 ghost use Rattle.changer.specs.Answers.{Answered, Answers, request_line};
 ghost use Rattle.frames.specs.Coded.{LINE_ROOM, Puts};

@@ -17,7 +17,13 @@ const LIMIT_AT: usize = 9;
 const LISTING_AT: usize = 10;
 
 // An answer is read into an area of the length and pattern that follow it.
-pub fn answer(rt: &HostRuntime, content: &[u8], out: &mut [u8], put: usize, area: &mut [u8]) -> usize
+pub fn answer(
+    rt: &HostRuntime,
+    content: &[u8],
+    out: &mut [u8],
+    put: usize,
+    area: &mut [u8],
+) -> usize
     ensures { result ≤ length out.old }
 {
     let from = after(content, RECORD_AT, 2);
@@ -28,7 +34,9 @@ pub fn answer(rt: &HostRuntime, content: &[u8], out: &mut [u8], put: usize, area
 }
 
 // The answer between two places of the content, on an area that is filled with the pattern, which stands two bytes behind the answer.
-fn answered(rt: &HostRuntime, content: &[u8],
+fn answered(
+    rt: &HostRuntime,
+    content: &[u8],
     from: usize,
     end: usize,
     out: &mut [u8],
@@ -45,7 +53,13 @@ fn answered(rt: &HostRuntime, content: &[u8],
 }
 
 // A request is written into an area of the length and pattern that follow its listing.
-pub fn request(rt: &HostRuntime, content: &[u8], out: &mut [u8], put: usize, area: &mut [u8]) -> usize
+pub fn request(
+    rt: &HostRuntime,
+    content: &[u8],
+    out: &mut [u8],
+    put: usize,
+    area: &mut [u8],
+) -> usize
     ensures { result ≤ length out.old }
 {
     let from = after(content, LISTING_AT, 2);
@@ -56,7 +70,9 @@ pub fn request(rt: &HostRuntime, content: &[u8], out: &mut [u8], put: usize, are
 }
 
 // The request whose listing stands between two places of the content, on an area that is filled with the pattern, which stands two bytes behind the listing.
-fn written(rt: &HostRuntime, content: &[u8],
+fn written(
+    rt: &HostRuntime,
+    content: &[u8],
     from: usize,
     end: usize,
     out: &mut [u8],

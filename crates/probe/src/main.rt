@@ -1,5 +1,6 @@
 // A test tool: any timetable, record, request and area through the library's C interface, and everything that comes back printed. Its protocol is docs/PROBE.md.
 #![tactic(auto)]
+
 ghost use Rattle.std.specs.Prelude.{length, ◌≡◌, ◌≤◌};
 ghost use Rattle.frames.specs.Coded.{LINE_ROOM};
 ghost use Rattle.probe.specs.Probes.{Probes};
@@ -19,7 +20,13 @@ fn main(rt: HostRuntime) {
 }
 
 // Answers probes until the input is over, and tells how much output still waits: nothing. A proved loop has to end, so it counts the frames down, from a number that no run uses up.
-fn run(rt: &HostRuntime, input: &mut [u8], out: &mut [u8], image: &mut [u8], area: &mut [u8]) -> usize
+fn run(
+    rt: &HostRuntime,
+    input: &mut [u8],
+    out: &mut [u8],
+    image: &mut [u8],
+    area: &mut [u8],
+) -> usize
     requires { LINE_ROOM ≤ length out.old }
     ensures { (result ≡ 0) × Probes input.old out.old input.new out.new }
 {
@@ -36,7 +43,14 @@ fn run(rt: &HostRuntime, input: &mut [u8], out: &mut [u8], image: &mut [u8], are
 }
 
 // A probe is answered, and its line put into the output.
-fn answered(rt: &HostRuntime, content: &[u8], put: usize, out: &mut [u8], image: &mut [u8], area: &mut [u8]) -> usize
+fn answered(
+    rt: &HostRuntime,
+    content: &[u8],
+    put: usize,
+    out: &mut [u8],
+    image: &mut [u8],
+    area: &mut [u8],
+) -> usize
     ensures { result ≤ length out.old }
 {
     let told = probing::line(rt, content, out, put, image, area);

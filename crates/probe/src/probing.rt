@@ -9,7 +9,14 @@ use parts::reading::{after, byte_at, fill_area, length_at, number_at, unpack};
 const IMAGE_AT: usize = 3;
 
 // The line of a probe, without its end, is put into the output.
-pub fn line(rt: &HostRuntime, content: &[u8], out: &mut [u8], put: usize, image: &mut [u8], area: &mut [u8]) -> usize
+pub fn line(
+    rt: &HostRuntime,
+    content: &[u8],
+    out: &mut [u8],
+    put: usize,
+    image: &mut [u8],
+    area: &mut [u8],
+) -> usize
     ensures { result ≤ length out.old }
 {
     let kind = byte_at(content, 0);
@@ -22,7 +29,9 @@ pub fn line(rt: &HostRuntime, content: &[u8], out: &mut [u8], put: usize, image:
 }
 
 // The line of a probe that has an image.
-fn on_image(rt: &HostRuntime, content: &[u8],
+fn on_image(
+    rt: &HostRuntime,
+    content: &[u8],
     kind: u8,
     out: &mut [u8],
     put: usize,
@@ -43,7 +52,9 @@ fn on_image(rt: &HostRuntime, content: &[u8],
 }
 
 // A request on the image, with an area of the length and pattern that follow it.
-fn change(rt: &HostRuntime, content: &[u8],
+fn change(
+    rt: &HostRuntime,
+    content: &[u8],
     at: usize,
     out: &mut [u8],
     put: usize,
@@ -60,7 +71,9 @@ fn change(rt: &HostRuntime, content: &[u8],
 }
 
 // The request between two places of the content, on an area that is filled with the pattern, which stands two bytes behind the request.
-fn changed(rt: &HostRuntime, content: &[u8],
+fn changed(
+    rt: &HostRuntime,
+    content: &[u8],
     from: usize,
     end: usize,
     out: &mut [u8],
@@ -89,7 +102,14 @@ fn changed(rt: &HostRuntime, content: &[u8],
 }
 
 // The owner query on the image.
-fn owner(rt: &HostRuntime, content: &[u8], from: usize, out: &mut [u8], put: usize, image: &[u8]) -> usize
+fn owner(
+    rt: &HostRuntime,
+    content: &[u8],
+    from: usize,
+    out: &mut [u8],
+    put: usize,
+    image: &[u8],
+) -> usize
     ensures { result ≤ length out.old }
 {
     let slot = number_at(content, from, 8);
@@ -101,7 +121,14 @@ fn owner(rt: &HostRuntime, content: &[u8], from: usize, out: &mut [u8], put: usi
 }
 
 // The standing query on the image.
-fn standing(rt: &HostRuntime, content: &[u8], from: usize, out: &mut [u8], put: usize, image: &[u8]) -> usize
+fn standing(
+    rt: &HostRuntime,
+    content: &[u8],
+    from: usize,
+    out: &mut [u8],
+    put: usize,
+    image: &[u8],
+) -> usize
     ensures { result ≤ length out.old }
 {
     let id = byte_at(content, from);
