@@ -1,5 +1,6 @@
 // Archived answers read and requests written, for the lab network. What the controller does not do itself stands here.
 #![tactic(auto)]
+
 use numbers::Refusal;
 use records::Reading;
 use timetable::Timetable;

@@ -1,5 +1,5 @@
 -- docs/RULES.md 11: the lettered bench cases, as one table of what is asked and what the definitions give.
-use Rattle.std.specs.Prelude.{eqb, ltb, leb, length, replicate, cond, ◌||◌, ◌&&◌, List, [], ◌∷◌, ◌++◌, ◌≡◌, ℕ, zero, suc, ◌+◌}
+use Rattle.std.specs.Prelude.{eqb, ltb, leb, replicate, cond, ◌||◌, ◌&&◌, List, [], ◌∷◌, ◌++◌, ◌≡◌, ℕ, zero, suc, ◌+◌}
 use Rattle.std.proofs.Math.Option.{none, some}
 use Rattle.change.specs.Change.{answer, record_of}
 use Rattle.change.specs.declared.Answer.{Answer}

@@ -1,6 +1,5 @@
 -- What is there is granted: going on with the present slots is a cyclic placement from the shortfalls at any slot from the base on, and placement is complete;
 -- the weights sum to at most 256, because no slot serves two. Assumes nothing.
-use lib.ListN.{length}
 use mathlib.Core.Bool.{Bool, true, false}
 use mathlib.Core.List.{List}
 use mathlib.Core.Option.{Option, none, some}

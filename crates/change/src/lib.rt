@@ -1,5 +1,6 @@
 // The change of a timetable by a request, and the two queries. Nothing is assumed checked: bad input is refused by number.
 #![tactic(auto)]
+
 ghost use Rattle.std.specs.Prelude.{length, replicate, true, ◌≡◌};
 ghost use Rattle.change.specs.Change.{answer, outcome, area_after};
 ghost use Rattle.change.specs.Columns.{Decides};

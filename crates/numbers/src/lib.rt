@@ -1,5 +1,6 @@
 // What each number says, and a refusal: its number and its place. Nothing here is refused.
 #![tactic(auto)]
+
 ghost use Rattle.std.specs.Prelude.{◌≡◌};
 ghost use Rattle.numbers.specs.Numbers.{refusal};
 

@@ -1,5 +1,6 @@
 // Cyclic placement: rule 4, docs/RULES.md 4.4. Each listed partition, in order, takes the largest free offset up to its last offset.
 #![tactic(auto)]
+
 ghost use Rattle.std.specs.Prelude.{◌≡◌};
 ghost use Rattle.placement.specs.Placed.{demands_of, placed_of, InOrderOfSome};
 

@@ -1,6 +1,5 @@
 -- Lengths in demand 3's words: rule 4 fails at a length exactly if the length is passed over, and a slot that the urgent rule cannot give breaks a bound
 -- whoever gets it. Assumes nothing.
-use lib.ListN.{length}
 use mathlib.Core.List.{List}
 use mathlib.Core.Logic.{◌↔◌, ◌⊎◌, inl, inr}
 use mathlib.Core.Option.{Option, none, some}

@@ -1,5 +1,6 @@
 // Requests and answers as bytes. A field is either read or refused at once, left to right.
 #![tactic(auto)]
+
 use numbers::Refusal;
 use slots::CoreSlot;
 use timetable::Timetable;

@@ -1,5 +1,6 @@
 // The timetable of one core: its limits, its fields and the empty one. Nothing here is refused.
 #![tactic(auto)]
+
 ghost use Rattle.std.specs.Prelude.{◌≡◌};
 ghost use Rattle.timetable.specs.Timetable.{absent_entry, empty_timetable};
 

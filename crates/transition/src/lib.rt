@@ -1,5 +1,6 @@
 // The transition: rules 2 and 3, docs/RULES.md 4.2 and 4.3. Lengths are searched one after the other; each further slot goes to the most urgent. Nothing here is refused.
 #![tactic(auto)]
+
 use timetable::Timetable;
 
 pub mod lengths; // lengths.rt: the search of lengths

@@ -1,5 +1,4 @@
 -- A field's tag and bytes are told, or its refusal. Assumes nothing.
-use borrow.Author.Rules.{rules}
 use Rattle.board.proofs.ArchiveLaws.{end_told, length_told, offset_told, owners_told, refusal_told}
 use Rattle.board.proofs.tarnflaw_answer_field.Goals as goal
 

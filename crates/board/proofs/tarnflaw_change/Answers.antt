@@ -1,5 +1,4 @@
 -- Bytes that are no image are refused; on an image it is the change of the image. Assumes nothing.
-use borrow.Author.Rules.{rules}
 use Rattle.board.proofs.BoardLaws.{change_no_image}
 use Rattle.board.proofs.tarnflaw_change.Goals as goal
 

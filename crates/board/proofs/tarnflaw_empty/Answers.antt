@@ -1,5 +1,4 @@
 -- Bytes that are no image are refused; an image becomes that of the empty timetable. Assumes nothing.
-use borrow.Author.Rules.{rules}
 use Rattle.board.proofs.BoardLaws.{empty_made, empty_refused}
 use Rattle.board.proofs.tarnflaw_empty.Goals as goal
 

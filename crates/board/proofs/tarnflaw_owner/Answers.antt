@@ -1,5 +1,4 @@
 -- Bytes that are no image are refused; on an image it is the owner query on the timetable that it holds. Assumes nothing.
-use borrow.Author.Rules.{rules}
 use mathlib.Core.Path.{refl}
 use Rattle.board.proofs.BoardLaws.{owner_no_image, owner_told}
 use Rattle.board.proofs.tarnflaw_owner.Goals as goal

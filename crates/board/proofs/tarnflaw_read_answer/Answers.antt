@@ -1,5 +1,4 @@
 -- A refused record tells its refusal; of a whole one the schedule is written, if the area is long enough. Assumes nothing.
-use borrow.Author.Rules.{rules}
 use Rattle.board.proofs.ArchiveLaws.{answer_refused, answer_whole, area_small}
 use Rattle.board.proofs.tarnflaw_read_answer.Goals as goal
 

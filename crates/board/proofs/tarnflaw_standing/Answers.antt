@@ -1,5 +1,4 @@
 -- Bytes that are no image are refused; on an image it is the standing query on the timetable that it holds. Assumes nothing.
-use borrow.Author.Rules.{rules}
 use mathlib.Core.Path.{refl}
 use Rattle.board.proofs.BoardLaws.{standing_no_image, standing_told}
 use Rattle.board.proofs.tarnflaw_standing.Goals as goal

@@ -1,5 +1,4 @@
 -- It is the writer of requests, with the slot as a number. Assumes nothing.
-use borrow.Author.Rules.{rules}
 use Rattle.board.proofs.ArchiveLaws.{request_told}
 use Rattle.board.proofs.tarnflaw_write_request.Goals as goal
 

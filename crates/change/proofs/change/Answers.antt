@@ -1,5 +1,4 @@
 -- `change` tests soundness, the first stage, and changes a timetable that is sound. Assumes nothing.
-use borrow.Author.Rules.{rules}
 use lib.ListN.{length}
 use lib.Seq.{sets}
 use mathlib.Core.List.{List}

@@ -1,5 +1,4 @@
 -- `change_sound` decides over columns, writes the record of what was decided, and joins what is in force. Assumes nothing.
-use borrow.Author.Rules.{rules}
 use lib.ListN.{length}
 use lib.Seq.{sets}
 use mathlib.Core.List.{List}

@@ -1,5 +1,4 @@
 -- `decide` tests soundness, the first stage, and decides. Assumes nothing.
-use borrow.Author.Rules.{rules}
 use mathlib.Core.Path.{refl, sym, ◌∙◌}
 use Rattle.change.proofs.Passing.{answer_unsound}
 use Rattle.timetable.proofs.ScanLaws.{refused, passed}

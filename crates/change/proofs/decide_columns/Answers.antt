@@ -1,5 +1,4 @@
 -- `decide_columns` splits the entries into columns, and decides over them. Assumes nothing.
-use borrow.Author.Rules.{rules}
 use mathlib.Core.Path.{refl, sym}
 use Rattle.change.proofs.decide_columns.Goals as goal
 

@@ -1,5 +1,4 @@
 -- `decide_sound` decides over columns, and joins what is in force. Assumes nothing.
-use borrow.Author.Rules.{rules}
 use mathlib.Core.Path.{refl}
 use Rattle.change.proofs.Passing.{hands_back}
 use Rattle.change.proofs.decide_sound.Goals as goal

@@ -15,7 +15,8 @@ returns c =
     let a = c.args in
     let request = a.request.now in
     let now = same_timetable a.s.timetable request (replicate AREA 0) c.change_sound-o.result refl c.change_sound-o.ensures.0 in
-    let line = same_line a.s.timetable request (replicate AREA 0) c.change_sound-o.result refl c.change_sound-o.ensures.0 a.s.ordinal in record { put_in_bounds = (
+    let line = same_line a.s.timetable request (replicate AREA 0) c.change_sound-o.result refl c.change_sound-o.ensures.0 a.s.ordinal in record {
+      put_in_bounds = (
         search rules,
         ap is_sound now ∙ stays_sound a.s.timetable request AREA c.requires.2,
         record {
@@ -23,4 +24,6 @@ returns c =
           ordinal = add-one a.s.ordinal;
           told = refl;
         },
-      ); puts = rw (c.length_of-size.ensures, line) at c.write_line-end.ensures.puts }
+      );
+      puts = rw (c.length_of-size.ensures, line) at c.write_line-end.ensures.puts;
+    }

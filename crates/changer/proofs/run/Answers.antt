@@ -1,16 +1,12 @@
 -- `changer::run` meets its contract. The invariant: the places lie inside their buffers, which keep their lengths, as many requests were answered as the ordinal counts, and the timetable is sound. The measure is how many ordinals are left.
 -- Assumes nothing.
 use borrow.Author.Rules.{rules}
-use lib.ListN.{length}
-use mathlib.Core.Bool.{true}
-use mathlib.Core.Logic.{⊎_elim}
 use mathlib.Core.Path.{◌≡◌, refl, ap, ◌∙◌}
 use native.Mathlib.Omega.{arith}
-use Prim.Native.Nat.{suc, ◌-◌, ◌^◌, ◌≤◌}
+use Prim.Native.Nat.{suc, ◌-◌}
 use Rattle.changer.specs.Answers.{Answered, start_controller}
 use Rattle.changer.specs.declared.Controller.{Controller}
-use Rattle.frames.proofs.RunLaws.{Stood, begins, one_more}
-use Rattle.frames.specs.Buffers.{Inside}
+use Rattle.frames.proofs.RunLaws.{begins, one_more}
 use Rattle.frames.specs.Coded.{Puts}
 use Rattle.timetable.proofs.InForce.{empty_sound}
 use Rattle.timetable.specs.Sound.{is_sound}
@@ -69,8 +65,7 @@ loop-s-preserved c =
 
 pub returns : goal.returns
 returns c =
-    let q = c.loop-s in
-    (
+    let q = c.loop-s in (
       search rules,
       record {
         begin = c.next_frame-p.result;

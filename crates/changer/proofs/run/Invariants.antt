@@ -1,18 +1,14 @@
 -- `changer::run` meets its contract. The invariant: the places lie inside their buffers, which keep their lengths, as many requests were answered as the ordinal counts, and the timetable is sound. The measure is how many ordinals are left.
 -- Assumes nothing.
-use borrow.Author.Rules.{rules}
 use lib.ListN.{length}
 use mathlib.Core.Bool.{true}
-use mathlib.Core.Logic.{⊎_elim}
-use mathlib.Core.Path.{◌≡◌, refl, ap, ◌∙◌}
-use native.Mathlib.Omega.{arith}
-use Prim.Native.Nat.{suc, ◌-◌, ◌^◌, ◌≤◌}
+use mathlib.Core.Path.{◌≡◌}
+use Prim.Native.Nat.{◌-◌, ◌^◌, ◌≤◌}
 use Rattle.changer.specs.Answers.{Answered, start_controller}
 use Rattle.changer.specs.declared.Controller.{Controller}
-use Rattle.frames.proofs.RunLaws.{Stood, begins, one_more}
+use Rattle.frames.proofs.RunLaws.{Stood}
 use Rattle.frames.specs.Buffers.{Inside}
 use Rattle.frames.specs.Coded.{Puts}
-use Rattle.timetable.proofs.InForce.{empty_sound}
 use Rattle.timetable.specs.Sound.{is_sound}
 use Rattle.changer.proofs.run.Given as goal
 

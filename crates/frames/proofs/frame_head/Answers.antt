@@ -1,6 +1,5 @@
 -- `frames::frame_head` meets its contract: its two tests are those of `head_of`, one after the other.
 -- Assumes nothing.
-use borrow.Author.Rules.{rules}
 use Rattle.frames.proofs.FrameLaws.{fitting, other_tag, too_long}
 use Rattle.frames.proofs.frame_head.Goals as goal
 

@@ -1,11 +1,10 @@
 -- `frames::keep_rest` meets its contract. The invariant: the first i bytes from `from` on stand at the front, and no other byte has changed, so the byte that a turn reads is still the one that stood there. The measure is what is left to move.
 -- Assumes nothing.
-use lib.ListN.{drop, get_or, length, length-set, set, take}
-use lib.Seq.{sets}
+use lib.ListN.{get_or, length-set, set}
 use mathlib.Core.List.{List}
 use mathlib.Core.Path.{◌≡◌, refl, ap, ◌∙◌}
 use native.Mathlib.Omega.{arith}
-use Prim.Native.Nat.{ℕ, ◌+◌, ◌-◌, ◌≤◌, zero-le}
+use Prim.Native.Nat.{ℕ, ◌+◌, ◌-◌, zero-le}
 use Rattle.frames.proofs.FrameLaws.{moved_more}
 use Rattle.frames.proofs.keep_rest.Goals as goal
 

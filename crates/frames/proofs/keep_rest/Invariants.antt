@@ -1,12 +1,9 @@
 -- `frames::keep_rest` meets its contract. The invariant: the first i bytes from `from` on stand at the front, and no other byte has changed, so the byte that a turn reads is still the one that stood there. The measure is what is left to move.
 -- Assumes nothing.
-use lib.ListN.{drop, get_or, length, length-set, set, take}
+use lib.ListN.{drop, length, take}
 use lib.Seq.{sets}
-use mathlib.Core.List.{List}
-use mathlib.Core.Path.{◌≡◌, refl, ap, ◌∙◌}
-use native.Mathlib.Omega.{arith}
-use Prim.Native.Nat.{ℕ, ◌+◌, ◌-◌, ◌≤◌, zero-le}
-use Rattle.frames.proofs.FrameLaws.{moved_more}
+use mathlib.Core.Path.{◌≡◌}
+use Prim.Native.Nat.{◌-◌, ◌≤◌}
 use Rattle.frames.proofs.keep_rest.Given as goal
 
 abbrev pub invariant-loop-i : goal.invariant-loop-i

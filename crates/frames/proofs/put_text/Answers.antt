@@ -1,10 +1,10 @@
 -- `frames::put_text` meets its contract. The invariant: the buffer is what it was with the text's first i bytes put in from `at` on. The measure is what is left of the text.
 -- Assumes nothing.
-use lib.ListN.{length, length-set, take}
-use lib.Seq.{sets, take-length}
+use lib.ListN.{length, length-set}
+use lib.Seq.{take-length}
 use mathlib.Core.Path.{◌≡◌, refl, ap, ◌∙◌}
 use native.Mathlib.Omega.{arith}
-use Prim.Native.Nat.{ℕ, ◌+◌, ◌-◌, ◌≤◌, zero-le}
+use Prim.Native.Nat.{ℕ, ◌+◌, zero-le}
 use Rattle.records.proofs.SetsLaws.{sets_next}
 use Rattle.frames.proofs.put_text.Goals as goal
 

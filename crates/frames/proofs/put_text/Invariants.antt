@@ -1,11 +1,9 @@
 -- `frames::put_text` meets its contract. The invariant: the buffer is what it was with the text's first i bytes put in from `at` on. The measure is what is left of the text.
 -- Assumes nothing.
-use lib.ListN.{length, length-set, take}
-use lib.Seq.{sets, take-length}
-use mathlib.Core.Path.{◌≡◌, refl, ap, ◌∙◌}
-use native.Mathlib.Omega.{arith}
-use Prim.Native.Nat.{ℕ, ◌+◌, ◌-◌, ◌≤◌, zero-le}
-use Rattle.records.proofs.SetsLaws.{sets_next}
+use lib.ListN.{length, take}
+use lib.Seq.{sets}
+use mathlib.Core.Path.{◌≡◌}
+use Prim.Native.Nat.{◌-◌, ◌≤◌}
 use Rattle.frames.proofs.put_text.Given as goal
 
 abbrev pub invariant-loop-i : goal.invariant-loop-i

@@ -1,10 +1,8 @@
 -- `place` meets its contract. The loop's invariant: the first i of the demands have their places, which the table and the offsets show, and
 -- the placement goes on from there with the rest. Assumes nothing.
-use borrow.Author.Rules.{rules}
 use mathlib.Core.Path.{sym, ap, ◌∙◌}
 use native.Mathlib.Omega.{arith}
-use Prim.Native.Nat.{◌-◌}
-use Rattle.placement.proofs.Placing.{Turn, Next, turn_next, turn_last, reached_none, reached_fair, reached_stuck, reached_offset, reached_more, reached_all}
+use Rattle.placement.proofs.Placing.{Next, turn_next, turn_last, reached_none, reached_fair, reached_stuck, reached_offset, reached_more, reached_all}
 use Rattle.timetable.specs.Sound.{is_period}
 use Rattle.placement.proofs.place.Goals as goal
 
@@ -21,7 +19,7 @@ take_last-requires c =
     let next : let l = c.loop-i in
     let a = c.args in
     Next a.ranks.now a.count l.taken l.offsets l.i =
-        let l = c.loop-i in turn_next _ _ l.taken l.offsets l.i l.invariant c.loop-i-test.true in
+    let l = c.loop-i in turn_next _ _ l.taken l.offsets l.i l.invariant c.loop-i-test.true in
     let f = reached_fair _ _ _ _ _ next in
     let p = c.period in
     (ap is_period p.ensures ∙ f.0, omega (arith, f.1, p.ensures, c.last.ensures))
@@ -31,7 +29,7 @@ returns-in_default c =
     let next : let l = c.loop-i in
     let a = c.args in
     Next a.ranks.now a.count l.taken l.offsets l.i =
-        let l = c.loop-i in turn_next _ _ l.taken l.offsets l.i l.invariant c.loop-i-test.true in
+    let l = c.loop-i in turn_next _ _ l.taken l.offsets l.i l.invariant c.loop-i-test.true in
     let l = c.last in
     let n = next in
     sym (reached_stuck _ _ _ _ _ n l.result l.ensures c.take_last.result c.take_last.ensures.finds c.in_default.is)
@@ -41,7 +39,7 @@ overflow_cast-offsets c =
     let next : let l = c.loop-i in
     let a = c.args in
     Next a.ranks.now a.count l.taken l.offsets l.i =
-        let l = c.loop-i in turn_next _ _ l.taken l.offsets l.i l.invariant c.loop-i-test.true in
+    let l = c.loop-i in turn_next _ _ l.taken l.offsets l.i l.invariant c.loop-i-test.true in
     let l = c.last in
     let n = next in
     omega (arith, reached_offset _ _ _ _ _ n l.result l.ensures c.take_last.result c.take_last.ensures.finds c.in-At.offset c.in-At.is)
@@ -51,7 +49,7 @@ loop-i-preserved c =
     let next : let l = c.loop-i in
     let a = c.args in
     Next a.ranks.now a.count l.taken l.offsets l.i =
-        let l = c.loop-i in turn_next _ _ l.taken l.offsets l.i l.invariant c.loop-i-test.true in
+    let l = c.loop-i in turn_next _ _ l.taken l.offsets l.i l.invariant c.loop-i-test.true in
     let i = c.id in
     let l = c.last in
     let p = c.period in

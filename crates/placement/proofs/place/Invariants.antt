@@ -1,11 +1,7 @@
 -- `place` meets its contract. The loop's invariant: the first i of the demands have their places, which the table and the offsets show, and
 -- the placement goes on from there with the rest. Assumes nothing.
-use borrow.Author.Rules.{rules}
-use mathlib.Core.Path.{sym, ap, ◌∙◌}
-use native.Mathlib.Omega.{arith}
 use Prim.Native.Nat.{◌-◌}
-use Rattle.placement.proofs.Placing.{Turn, Next, turn_next, turn_last, reached_none, reached_fair, reached_stuck, reached_offset, reached_more, reached_all}
-use Rattle.timetable.specs.Sound.{is_period}
+use Rattle.placement.proofs.Placing.{Turn}
 use Rattle.placement.proofs.place.Given as goal
 
 abbrev pub invariant-loop-i : goal.invariant-loop-i

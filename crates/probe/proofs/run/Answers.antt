@@ -1,14 +1,11 @@
 -- `probe::run` meets its contract. The invariant: the places lie inside their buffers, the buffers keep their lengths, and as many frames were answered as are gone from the count. The measure is the number of frames that are left.
 -- Assumes nothing.
 use borrow.Author.Rules.{rules}
-use lib.ListN.{length}
 use mathlib.Core.List.{[]}
-use mathlib.Core.Logic.{⊎_elim}
 use mathlib.Core.Path.{◌≡◌, refl}
 use native.Mathlib.Omega.{arith}
-use Prim.Native.Nat.{suc, ◌-◌, ◌^◌, ◌≤◌}
-use Rattle.frames.proofs.RunLaws.{Stood, begins, one_more}
-use Rattle.frames.specs.Buffers.{Inside}
+use Prim.Native.Nat.{suc, ◌-◌, ◌^◌}
+use Rattle.frames.proofs.RunLaws.{begins, one_more}
 use Rattle.probe.specs.Probes.{Printed, Told}
 use Rattle.probe.proofs.run.Goals as goal
 use Rattle.probe.proofs.run.Goals.{then-loop-left-test+else-p, else-loop-left-test}
@@ -57,8 +54,7 @@ loop-left-preserved c =
 
 pub returns : goal.returns
 returns c =
-    let q = c.loop-left in
-    (
+    let q = c.loop-left in (
       search rules,
       record {
         begin = c.next_frame-p.result;

@@ -1,13 +1,9 @@
 -- `probe::run` meets its contract. The invariant: the places lie inside their buffers, the buffers keep their lengths, and as many frames were answered as are gone from the count. The measure is the number of frames that are left.
 -- Assumes nothing.
-use borrow.Author.Rules.{rules}
 use lib.ListN.{length}
-use mathlib.Core.List.{[]}
-use mathlib.Core.Logic.{⊎_elim}
-use mathlib.Core.Path.{◌≡◌, refl}
-use native.Mathlib.Omega.{arith}
-use Prim.Native.Nat.{suc, ◌-◌, ◌^◌, ◌≤◌}
-use Rattle.frames.proofs.RunLaws.{Stood, begins, one_more}
+use mathlib.Core.Path.{◌≡◌}
+use Prim.Native.Nat.{◌-◌, ◌^◌, ◌≤◌}
+use Rattle.frames.proofs.RunLaws.{Stood}
 use Rattle.frames.specs.Buffers.{Inside}
 use Rattle.probe.specs.Probes.{Printed, Told}
 use Rattle.probe.proofs.run.Given as goal

@@ -1,5 +1,4 @@
 -- The place is told apart as in the definition. Assumes nothing.
-use borrow.Author.Rules.{rules}
 use borrow.Author.Tests.{le-leb, lt-leb, ne_eqb}
 use lib.ListN.{length}
 use mathlib.Core.Path.{sym, ◌∙◌}

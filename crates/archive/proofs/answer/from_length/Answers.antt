@@ -1,5 +1,4 @@
 -- A length that stands is read, and then the owners. Assumes nothing.
-use borrow.Author.Rules.{rules}
 use borrow.Author.Tests.{not-false, not-true}
 use lib.ListN.{replicate}
 use mathlib.Core.Path.{sym, subst, ◌∙◌}

@@ -1,15 +1,12 @@
 -- The invariant: what is read from `at` on, added to the offsets so far, is what is read from the first place on. Assumes nothing.
-use borrow.Author.Rules.{rules}
-use lib.ListN.{length, length-replicate, length-set, replicate}
+use lib.ListN.{length-replicate, length-set, replicate}
 use mathlib.Core.Bool.{true}
-use mathlib.Core.Logic.{◌≢◌}
 use mathlib.Core.List.{List}
 use mathlib.Core.Path.{◌≡◌, sym, subst, ◌∙◌}
 use native.Mathlib.Omega.{arith}
-use Prim.Native.Nat.{ℕ, ◌-◌}
+use Prim.Native.Nat.{ℕ}
 use Rattle.archive.proofs.AnswerSteps.{AnswerRead, offset_ends, offset_goes, offset_inside, offset_stops}
 use Rattle.archive.specs.AnswerRead.{no_offset, offset_stands}
-use Rattle.archive.specs.declared.ReadAnswer.{ReadAnswer}
 use Rattle.archive.specs.declared.Schedule.{Schedule}
 use Rattle.slots.specs.Limits.{IDS}
 use Rattle.archive.proofs.answer.from_offsets.Goals as goal
@@ -27,37 +24,37 @@ offset_stands-requires c = omega (arith, c.loop-id.invariant.0)
 pub content_at-id-requires : goal.content_at-id-requires
 content_at-id-requires c =
     let stands : Stands c.args.s.now c.loop-id.at =
-        sym c.offset_stands.ensures ∙ c.loop-id-test.true in
+    sym c.offset_stands.ensures ∙ c.loop-id-test.true in
     omega (arith, (offset_inside _ _ stands).0)
 
 pub content_at-offset-requires : goal.content_at-offset-requires
 content_at-offset-requires c =
     let stands : Stands c.args.s.now c.loop-id.at =
-        sym c.offset_stands.ensures ∙ c.loop-id-test.true in
+    sym c.offset_stands.ensures ∙ c.loop-id-test.true in
     omega (arith, (offset_inside _ _ stands).0)
 
 pub bounds-offsets-id : goal.bounds-offsets-id
 bounds-offsets-id c =
     let stands : Stands c.args.s.now c.loop-id.at =
-        sym c.offset_stands.ensures ∙ c.loop-id-test.true in
+    sym c.offset_stands.ensures ∙ c.loop-id-test.true in
     omega (arith, (offset_inside _ _ stands).1, c.content_at-id.ensures)
 
 pub overflow_add-at : goal.overflow_add-at
 overflow_add-at c =
     let stands : Stands c.args.s.now c.loop-id.at =
-        sym c.offset_stands.ensures ∙ c.loop-id-test.true in
+    sym c.offset_stands.ensures ∙ c.loop-id-test.true in
     omega (arith, (offset_inside _ _ stands).0)
 
 pub loop-id-smaller : goal.loop-id-smaller
 loop-id-smaller c =
     let stands : Stands c.args.s.now c.loop-id.at =
-        sym c.offset_stands.ensures ∙ c.loop-id-test.true in
+    sym c.offset_stands.ensures ∙ c.loop-id-test.true in
     omega (arith, (offset_inside _ _ stands).0)
 
 pub loop-id-preserved : goal.loop-id-preserved
 loop-id-preserved c =
     let stands : Stands c.args.s.now c.loop-id.at =
-        sym c.offset_stands.ensures ∙ c.loop-id-test.true in
+    sym c.offset_stands.ensures ∙ c.loop-id-test.true in
     let l = c.loop-id in
     let s = c.args.s.now in (
       omega arith,

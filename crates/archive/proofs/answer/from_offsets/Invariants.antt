@@ -1,16 +1,11 @@
 -- The invariant: what is read from `at` on, added to the offsets so far, is what is read from the first place on. Assumes nothing.
-use borrow.Author.Rules.{rules}
-use lib.ListN.{length, length-replicate, length-set, replicate}
-use mathlib.Core.Bool.{true}
+use lib.ListN.{length, replicate}
 use mathlib.Core.Logic.{◌≢◌}
-use mathlib.Core.List.{List}
-use mathlib.Core.Path.{◌≡◌, sym, subst, ◌∙◌}
-use native.Mathlib.Omega.{arith}
-use Prim.Native.Nat.{ℕ, ◌-◌}
-use Rattle.archive.proofs.AnswerSteps.{AnswerRead, offset_ends, offset_goes, offset_inside, offset_stops}
-use Rattle.archive.specs.AnswerRead.{no_offset, offset_stands}
+use mathlib.Core.Path.{◌≡◌}
+use Prim.Native.Nat.{◌-◌}
+use Rattle.archive.proofs.AnswerSteps.{AnswerRead}
+use Rattle.archive.specs.AnswerRead.{no_offset}
 use Rattle.archive.specs.declared.ReadAnswer.{ReadAnswer}
-use Rattle.archive.specs.declared.Schedule.{Schedule}
 use Rattle.slots.specs.Limits.{IDS}
 use Rattle.archive.proofs.answer.from_offsets.Given as goal
 

@@ -1,5 +1,4 @@
 -- Owners that stand are read, and then the offsets. Assumes nothing.
-use borrow.Author.Rules.{rules}
 use borrow.Author.Tests.{not-false, not-true}
 use lib.ListN.{replicate}
 use mathlib.Core.List.{List}

@@ -1,5 +1,4 @@
 -- The step is the one of a length that stands, or the refusal. Assumes nothing.
-use borrow.Author.Rules.{rules}
 use borrow.Author.Tests.{not-false, not-true}
 use mathlib.Core.Path.{sym, ◌∙◌}
 use Rattle.archive.specs.AnswerRead.{length_field}

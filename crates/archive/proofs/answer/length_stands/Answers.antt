@@ -1,5 +1,4 @@
 -- The form is tested first, then the length. Assumes nothing.
-use borrow.Author.Rules.{rules}
 use borrow.Author.Tests.{not-false, not-true}
 use lib.Dec.{leb}
 use mathlib.Core.Path.{sym, ap, ◌∙◌}

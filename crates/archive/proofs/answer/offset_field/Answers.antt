@@ -1,5 +1,4 @@
 -- The step is the one of an offset that stands, or the refusal. Assumes nothing.
-use borrow.Author.Rules.{rules}
 use borrow.Author.Tests.{not-false, not-true}
 use lib.ListN.{length}
 use mathlib.Core.Path.{sym, ◌∙◌}
@@ -18,19 +17,19 @@ returns-then-not-offset_stands c = c.refused_at.ensures ∙ sym (rw (sym c.offse
 pub content_at-requires : goal.content_at-requires
 content_at-requires c =
     let inside : c.args.at + 5 ≤ length c.args.s.now =
-        (offset_inside _ _ (sym c.offset_stands.ensures ∙ not-false _ (ap not c.if-not-offset_stands.false))).0 in
+    (offset_inside _ _ (sym c.offset_stands.ensures ∙ not-false _ (ap not c.if-not-offset_stands.false))).0 in
     omega (arith, inside)
 
 pub content_at-requires-2 : goal.content_at-requires-2
 content_at-requires-2 c =
     let inside : c.args.at + 5 ≤ length c.args.s.now =
-        (offset_inside _ _ (sym c.offset_stands.ensures ∙ not-false _ (ap not c.if-not-offset_stands.false))).0 in
+    (offset_inside _ _ (sym c.offset_stands.ensures ∙ not-false _ (ap not c.if-not-offset_stands.false))).0 in
     omega (arith, inside)
 
 pub overflow_add-result : goal.overflow_add-result
 overflow_add-result c =
     let inside : c.args.at + 5 ≤ length c.args.s.now =
-        (offset_inside _ _ (sym c.offset_stands.ensures ∙ not-false _ (ap not c.if-not-offset_stands.false))).0 in
+    (offset_inside _ _ (sym c.offset_stands.ensures ∙ not-false _ (ap not c.if-not-offset_stands.false))).0 in
     omega (arith, inside)
 
 pub returns : goal.returns

@@ -1,5 +1,4 @@
 -- The owners stand from byte 7 on; past the record and past the length there is none. Assumes nothing.
-use borrow.Author.Rules.{rules}
 use borrow.Author.Tests.{le-ltb, lt-ltb}
 use lib.ListN.{get_or-eq_default}
 use mathlib.Core.Path.{sym}

@@ -1,11 +1,6 @@
 -- The invariant: the list has the first n owners, and 0 behind them. Assumes nothing.
-use borrow.Author.Rules.{rules}
-use mathlib.Core.Path.{◌≡◌, subst}
-use native.Mathlib.Omega.{arith}
-use Prim.Native.Nat.{ℕ, ◌-◌, ◌≤◌}
-use Rattle.archive.proofs.ScheduleLaws.{OwnersIn, owners_all, owners_next, owners_none}
-use Rattle.archive.specs.AnswerRead.{told_length}
-use Rattle.records.specs.Request.{content_at}
+use Prim.Native.Nat.{◌-◌, ◌≤◌}
+use Rattle.archive.proofs.ScheduleLaws.{OwnersIn}
 use Rattle.archive.proofs.answer.owners_of.Given as goal
 
 abbrev pub invariant-loop-n : goal.invariant-loop-n

@@ -1,5 +1,4 @@
 -- The length is tested first, then the form, then the owners. Assumes nothing.
-use borrow.Author.Rules.{rules}
 use borrow.Author.Tests.{le-leb, lt-leb, not-false, not-true}
 use mathlib.Core.Bool.{and-false}
 use mathlib.Core.Path.{◌≡◌, sym, subst, ◌∙◌}

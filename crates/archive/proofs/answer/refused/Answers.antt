@@ -1,5 +1,4 @@
 -- The answer is made of the refusal. Assumes nothing.
-use borrow.Author.Rules.{rules}
 use Rattle.archive.proofs.answer.refused.Goals as goal
 
 pub returns : goal.returns

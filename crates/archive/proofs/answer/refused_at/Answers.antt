@@ -1,5 +1,4 @@
 -- The step is made of the refusal. Assumes nothing.
-use borrow.Author.Rules.{rules}
 use Rattle.archive.specs.AnswerRead.{refused_at}
 use Rattle.archive.proofs.answer.refused_at.Goals as goal
 

@@ -1,5 +1,4 @@
 -- Reading begins at the length, at the owners or at the offsets, and gives one thing. Assumes nothing.
-use borrow.Author.Rules.{rules}
 use mathlib.Core.Path.{sym}
 use Rattle.archive.proofs.AnswerSteps.{answer_is}
 use Rattle.archive.proofs.answer.rest_at.Goals as goal

@@ -1,13 +1,10 @@
 -- The invariant: the first n entries are in range and rise, and `floor` is the least id that the next may have. Assumes nothing.
-use borrow.Author.Rules.{rules}
 use borrow.Author.Tests.{not-false, not-true}
-use lib.ListN.{length}
-use mathlib.Core.Path.{◌≡◌, refl, sym, ◌∙◌}
+use mathlib.Core.Path.{refl, sym, ◌∙◌}
 use native.Mathlib.Numerals.{add-one}
 use native.Mathlib.Omega.{arith}
-use Prim.Native.Nat.{◌-◌}
 use Rattle.archive.proofs.WriterLaws.{Stop, entry_fails, entry_range, floor_of, reading_is, rise_inside, rise_more, rise_none}
-use Rattle.archive.specs.Writes.{EntriesRise, EntryRange}
+use Rattle.archive.specs.Writes.{EntryRange}
 use mathlib.Core.Bool.{not}
 use mathlib.Core.Path.{ap}
 use Rattle.archive.proofs.writer.check_entries.Goals as goal
@@ -28,21 +25,21 @@ returns-then-not-is_entry c =
 pub returns-then-id-floor : goal.returns-then-id-floor
 returns-then-id-floor c =
     let in-range : EntryRange c.args.listing.now c.loop-n.n =
-        entry_range _ _ (sym c.is_entry.ensures ∙ not-false _ (ap not c.if-not-is_entry.false)) in
+    entry_range _ _ (sym c.is_entry.ensures ∙ not-false _ (ap not c.if-not-is_entry.false)) in
     let l = c.loop-n in
     rw c.of-then-id-floor.ensures (reading_is _ _ _ l.invariant.0 (Stop.low in-range (omega (arith, c.if-id-floor.true, l.invariant.1))))
 
 pub overflow_add-floor : goal.overflow_add-floor
 overflow_add-floor c =
     let in-range : EntryRange c.args.listing.now c.loop-n.n =
-        entry_range _ _ (sym c.is_entry.ensures ∙ not-false _ (ap not c.if-not-is_entry.false)) in
+    entry_range _ _ (sym c.is_entry.ensures ∙ not-false _ (ap not c.if-not-is_entry.false)) in
     omega (arith, in-range.id)
 
 pub loop-n-preserved : goal.loop-n-preserved
 unfolding floor_of
 loop-n-preserved c =
     let in-range : EntryRange c.args.listing.now c.loop-n.n =
-        entry_range _ _ (sym c.is_entry.ensures ∙ not-false _ (ap not c.if-not-is_entry.false)) in
+    entry_range _ _ (sym c.is_entry.ensures ∙ not-false _ (ap not c.if-not-is_entry.false)) in
     let l = c.loop-n in
     rw (add-one l.n) (rise_more _ l.n l.invariant.0 in-range (omega (arith, c.if-id-floor.false, l.invariant.1)), omega arith)
 

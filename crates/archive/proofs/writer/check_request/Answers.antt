@@ -1,5 +1,4 @@
 -- The slot is tested first, then T, then the listing, as in the definition. Assumes nothing.
-use borrow.Author.Rules.{rules}
 use mathlib.Core.Path.{sym, ap, ◌∙◌}
 use Rattle.archive.proofs.HandedLaws.{handed_reading, high_limit, high_slot}
 use Rattle.records.specs.declared.ReadRequest.{ReadRequest}

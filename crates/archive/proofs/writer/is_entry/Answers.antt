@@ -1,5 +1,4 @@
 -- The tests are those of the definition: not cut short, the id, the k, the bound. Assumes nothing.
-use borrow.Author.Rules.{rules}
 use borrow.Author.Tests.{le-leb, le-ltb, lt-leb, lt-ltb}
 use lib.ListN.{length}
 use native.Mathlib.Omega.{arith}

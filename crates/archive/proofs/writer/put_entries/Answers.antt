@@ -1,9 +1,6 @@
 -- The invariant: the fields of the first n entries are stored from place 15 on. Assumes nothing.
-use lib.ListN.{length}
-use lib.Seq.{sets}
 use mathlib.Core.Path.{◌≡◌, refl, ◌∙◌}
 use native.Mathlib.Omega.{arith}
-use Prim.Native.Nat.{◌-◌, ◌≤◌}
 use Rattle.archive.proofs.RequestStores.{fields_next}
 use Rattle.archive.specs.Put.{listing_fields}
 use Rattle.archive.proofs.writer.put_entries.Goals as goal

@@ -1,10 +1,8 @@
 -- The invariant: the fields of the first n entries are stored from place 15 on. Assumes nothing.
 use lib.ListN.{length}
 use lib.Seq.{sets}
-use mathlib.Core.Path.{◌≡◌, refl, ◌∙◌}
-use native.Mathlib.Omega.{arith}
+use mathlib.Core.Path.{◌≡◌}
 use Prim.Native.Nat.{◌-◌, ◌≤◌}
-use Rattle.archive.proofs.RequestStores.{fields_next}
 use Rattle.archive.specs.Put.{listing_fields}
 use Rattle.archive.proofs.writer.put_entries.Given as goal
 

@@ -1,5 +1,4 @@
 -- The head of the field, then its three bytes behind it. Assumes nothing.
-use borrow.Author.Rules.{rules}
 use lib.ListN.{length-set}
 use native.Mathlib.Omega.{arith}
 use Rattle.archive.proofs.RequestStores.{entry_stored}

@@ -1,5 +1,4 @@
 -- The fields are stored one behind the other, each from where the one before ends, and no store changes the area's length. Assumes nothing.
-use borrow.Author.Rules.{rules}
 use lib.ListN.{length, length-set}
 use mathlib.Core.Path.{◌≡◌, ◌∙◌}
 use native.Mathlib.Omega.{arith}
@@ -10,7 +9,7 @@ pub put_entries-requires : goal.put_entries-requires
 put_entries-requires c =
     let kept : length c.put_head-2.new.area
     ≡ length c.args.area.now =
-        c.put_head-2.auto.area ∙ c.put_number.auto.area
+    c.put_head-2.auto.area ∙ c.put_number.auto.area
     ∙ c.put_head.auto.area in
     (omega arith, simp length-set (omega (arith, kept)))
 

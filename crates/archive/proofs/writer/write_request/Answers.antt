@@ -1,5 +1,4 @@
 -- A refusal of what is handed over is returned; else there is an entry for each three bytes, and the area decides. Assumes nothing.
-use borrow.Author.Rules.{rules}
 use lib.ListN.{length}
 use mathlib.Core.Path.{◌≡◌, sym, ◌∙◌}
 use native.Mathlib.Omega.{arith}
@@ -15,21 +14,21 @@ pub overflow_add-size : goal.overflow_add-size
 overflow_add-size c =
     let handed : HandedWhole c.args.slot c.args.limit
     c.args.listing.now =
-        whole_handed _ _ _ (sym c.check_request-handed.ensures ∙ c.in_default.is) in
+    whole_handed _ _ _ (sym c.check_request-handed.ensures ∙ c.in_default.is) in
     let w = handed in omega (arith, w.end, rise_few _ _ w.rise)
 
 pub returns-then-area-size : goal.returns-then-area-size
 returns-then-area-size c =
     let handed : HandedWhole c.args.slot c.args.limit
     c.args.listing.now =
-        whole_handed _ _ _ (sym c.check_request-handed.ensures ∙ c.in_default.is) in
+    whole_handed _ _ _ (sym c.check_request-handed.ensures ∙ c.in_default.is) in
     let w = handed in write_small _ _ _ _ w.n w.in_range w.rise w.end (omega (arith, w.end))
 
 pub returns : goal.returns
 returns c =
     let handed : HandedWhole c.args.slot c.args.limit
     c.args.listing.now =
-        whole_handed _ _ _ (sym c.check_request-handed.ensures ∙ c.in_default.is) in
+    whole_handed _ _ _ (sym c.check_request-handed.ensures ∙ c.in_default.is) in
     let w = handed in
     let a = c.args in
     let n : length a.listing.now / 3 ≡ w.n = omega (arith, w.end) in

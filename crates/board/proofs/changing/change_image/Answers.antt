@@ -1,5 +1,4 @@
 -- The figures that are read are those of the timetable that the image holds: it is refused where they are not sound. Assumes nothing.
-use borrow.Author.Rules.{rules}
 use mathlib.Core.Path.{refl, sym, ap, ◌∙◌}
 use Rattle.board.proofs.BoardLaws.{change_unsound}
 use Rattle.board.proofs.HeldLaws.{held}

@@ -1,5 +1,4 @@
 -- What was decided is told and its record written; where the request is accepted, the image of the new timetable is written too. Assumes nothing.
-use borrow.Author.Rules.{rules}
 use mathlib.Core.Path.{refl}
 use Rattle.board.proofs.BoardLaws.{change_accepted, change_refused}
 use Rattle.change.proofs.DecideLaws.{record_fits}

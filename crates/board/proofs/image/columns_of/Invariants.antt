@@ -1,11 +1,8 @@
 -- The invariant: the columns hold the figures of the image's entries below `id`. Assumes nothing.
-use mathlib.Core.Path.{sym, ◌∙◌}
-use native.Mathlib.Omega.{arith}
 use Prim.Native.Nat.{◌-◌, ◌≤◌}
-use Rattle.board.proofs.HeldLaws.{held_at, held_length}
 use Rattle.board.specs.Image.{entries_at}
 use Rattle.slots.specs.Limits.{IDS}
-use Rattle.timetable.proofs.ColumnLaws.{Columned, columned_all, columned_next, columned_nothing}
+use Rattle.timetable.proofs.ColumnLaws.{Columned}
 use Rattle.board.proofs.image.columns_of.Given as goal
 
 abbrev pub invariant-loop-id : goal.invariant-loop-id

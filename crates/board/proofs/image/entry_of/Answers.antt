@@ -1,5 +1,4 @@
 -- The four fields, each from its place. Assumes nothing.
-use borrow.Author.Rules.{rules}
 use Rattle.board.proofs.image.entry_of.Goals as goal
 
 pub returns : goal.returns

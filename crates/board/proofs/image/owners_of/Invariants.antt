@@ -1,10 +1,8 @@
 -- The invariant: the first n owners are those of the image. Assumes nothing.
 use lib.ListN.{drop, replicate, take}
 use lib.Seq.{sets}
-use mathlib.Core.Path.{◌≡◌, refl}
-use native.Mathlib.Omega.{arith}
+use mathlib.Core.Path.{◌≡◌}
 use Prim.Native.Nat.{◌-◌, ◌≤◌}
-use Rattle.board.proofs.HeldLaws.{owners_all, owners_next}
 use Rattle.board.specs.Image.{OWNERS_AT}
 use Rattle.slots.specs.Limits.{LONGEST}
 use Rattle.board.proofs.image.owners_of.Given as goal

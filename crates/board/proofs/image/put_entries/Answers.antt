@@ -1,11 +1,10 @@
 -- The invariant: the entries of the ids below `id` are stored one behind the other. Assumes nothing.
-use lib.ListN.{length}
 use lib.Seq.{sets}
 use mathlib.Core.Path.{◌≡◌, refl, sym, ap, ◌∙◌}
 use native.Mathlib.Omega.{arith}
-use Prim.Native.Nat.{◌+◌, ◌-◌, ◌*◌, ◌≤◌}
+use Prim.Native.Nat.{◌+◌, ◌*◌}
 use Rattle.board.proofs.StoreLaws.{entry_length, rising_next}
-use Rattle.board.specs.Image.{ENTRIES_AT, ENTRY, entries_bytes, entry_bytes}
+use Rattle.board.specs.Image.{ENTRIES_AT, ENTRY, entry_bytes}
 use Rattle.records.specs.Answer.{rising}
 use Rattle.slots.specs.Limits.{IDS}
 use Rattle.timetable.proofs.ColumnLaws.{columns_at}

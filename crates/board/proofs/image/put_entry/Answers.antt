@@ -1,7 +1,5 @@
 -- The period, the offset, the bound and the shortfall, one behind the other. Assumes nothing.
-use borrow.Author.Rules.{rules}
 use lib.ListN.{length-set}
-use mathlib.Core.Path.{◌∙◌}
 use native.Mathlib.Omega.{arith}
 use Rattle.board.proofs.StoreLaws.{entry_stored}
 use Rattle.board.proofs.image.put_entry.Goals as goal

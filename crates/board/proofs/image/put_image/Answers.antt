@@ -1,5 +1,4 @@
 -- The fields are stored one behind the other, and no store changes the image's length. Assumes nothing.
-use borrow.Author.Rules.{rules}
 use lib.ListN.{length, length-set}
 use mathlib.Core.Path.{◌≡◌, ◌∙◌}
 use native.Mathlib.Omega.{arith}
@@ -14,25 +13,25 @@ put_owners-requires c =
 pub put_number-requires-2 : goal.put_number-requires-2
 put_number-requires-2 c =
     let owners-put : length c.put_owners.new.area ≡ length c.args.image.now =
-        c.put_owners.auto.area ∙ simp length-set c.put_number.auto.area in
+    c.put_owners.auto.area ∙ simp length-set c.put_number.auto.area in
     omega (arith, owners-put, c.requires.0)
 
 pub put_entries-requires : goal.put_entries-requires
 put_entries-requires c =
     let owners-put : length c.put_owners.new.area ≡ length c.args.image.now =
-        c.put_owners.auto.area ∙ simp length-set c.put_number.auto.area in
+    c.put_owners.auto.area ∙ simp length-set c.put_number.auto.area in
     let base-put : length c.put_number-2.new.area ≡ length c.args.image.now =
-        c.put_number-2.auto.area ∙ owners-put in
+    c.put_number-2.auto.area ∙ owners-put in
     base-put ∙ c.requires.0
 
 pub put_starts-requires : goal.put_starts-requires
 put_starts-requires c =
     let owners-put : length c.put_owners.new.area ≡ length c.args.image.now =
-        c.put_owners.auto.area ∙ simp length-set c.put_number.auto.area in
+    c.put_owners.auto.area ∙ simp length-set c.put_number.auto.area in
     let base-put : length c.put_number-2.new.area ≡ length c.args.image.now =
-        c.put_number-2.auto.area ∙ owners-put in
+    c.put_number-2.auto.area ∙ owners-put in
     let entries-put : length c.put_entries.new.image ≡ length c.args.image.now =
-        c.put_entries.auto.image ∙ base-put in
+    c.put_entries.auto.image ∙ base-put in
     entries-put ∙ c.requires.0
 
 pub returns : goal.returns

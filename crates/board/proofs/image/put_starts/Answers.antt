@@ -1,11 +1,8 @@
 -- The invariant: the starts of the ids below `id` are stored one behind the other. Assumes nothing.
-use lib.ListN.{length}
-use lib.Seq.{sets}
 use mathlib.Core.Path.{◌≡◌, refl, ◌∙◌}
 use native.Mathlib.Omega.{arith}
-use Prim.Native.Nat.{◌-◌, ◌≤◌}
 use Rattle.board.proofs.StoreLaws.{rising_next, start_length}
-use Rattle.board.specs.Image.{START, STARTS_AT, starts_bytes}
+use Rattle.board.specs.Image.{START, STARTS_AT}
 use Rattle.records.specs.Answer.{rising}
 use Rattle.slots.specs.Limits.{IDS}
 use Rattle.board.proofs.image.put_starts.Goals as goal
@@ -17,8 +14,7 @@ loop-id-init c = (omega arith, refl, refl)
 pub loop-id-preserved : goal.loop-id-preserved
 loop-id-preserved c =
     let p = c.put_short in
-    let l = c.loop-id in
-    (
+    let l = c.loop-id in (
       omega arith,
       p.auto.image ∙ l.invariant.1,
       rising_next _ START (start_length c.args.starts.now) c.args.image.now l.image p.new.image STARTS_AT _ l.id refl l.invariant.2 p.ensures,

@@ -1,12 +1,9 @@
 -- The invariant: the starts of the ids below `id` are stored one behind the other. Assumes nothing.
 use lib.ListN.{length}
 use lib.Seq.{sets}
-use mathlib.Core.Path.{◌≡◌, refl, ◌∙◌}
-use native.Mathlib.Omega.{arith}
+use mathlib.Core.Path.{◌≡◌}
 use Prim.Native.Nat.{◌-◌, ◌≤◌}
-use Rattle.board.proofs.StoreLaws.{rising_next, start_length}
-use Rattle.board.specs.Image.{START, STARTS_AT, starts_bytes}
-use Rattle.records.specs.Answer.{rising}
+use Rattle.board.specs.Image.{STARTS_AT, starts_bytes}
 use Rattle.slots.specs.Limits.{IDS}
 use Rattle.board.proofs.image.put_starts.Given as goal
 

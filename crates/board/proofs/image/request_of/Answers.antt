@@ -1,5 +1,4 @@
 -- The number at its place. Assumes nothing.
-use borrow.Author.Rules.{rules}
 use mathlib.Core.Path.{ap}
 use Rattle.slots.specs.Clocks.{core_slot}
 use Rattle.board.proofs.image.request_of.Goals as goal

@@ -1,5 +1,4 @@
 -- Two bytes are below 2^16. Assumes nothing.
-use borrow.Author.Rules.{rules}
 use native.Mathlib.Omega.{arith}
 use Rattle.board.proofs.HeldLaws.{short_below}
 use Rattle.board.proofs.image.short_at.Goals as goal

@@ -1,12 +1,9 @@
 -- The invariant: the starts of the ids below `id` are those of the image. Assumes nothing.
 use lib.ListN.{replicate}
 use lib.Seq.{sets}
-use mathlib.Core.Path.{◌≡◌, refl}
-use native.Mathlib.Omega.{arith}
+use mathlib.Core.Path.{◌≡◌}
 use Prim.Native.Nat.{◌-◌, ◌≤◌}
-use Rattle.board.proofs.HeldLaws.{starts_all, starts_next}
 use Rattle.board.specs.Image.{starts_at}
-use Rattle.records.specs.Answer.{rising}
 use Rattle.slots.specs.Limits.{IDS}
 use Rattle.board.proofs.image.starts_of.Given as goal
 

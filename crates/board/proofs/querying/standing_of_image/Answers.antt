@@ -1,5 +1,4 @@
 -- The figures that are read are those of the timetable that the image holds. Assumes nothing.
-use borrow.Author.Rules.{rules}
 use mathlib.Core.Path.{ap, ◌∙◌}
 use Rattle.board.proofs.HeldLaws.{held}
 use Rattle.change.specs.Queries.{standing_query}

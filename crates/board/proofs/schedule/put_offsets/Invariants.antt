@@ -1,12 +1,9 @@
 -- The invariant: the bytes of the ids below `id` are stored one behind the other. Assumes nothing.
-use borrow.Author.Rules.{rules}
-use lib.ListN.{length, length-set, take}
+use lib.ListN.{length, take}
 use lib.Seq.{sets}
 use mathlib.Core.List.{map}
-use mathlib.Core.Path.{◌≡◌, refl}
-use native.Mathlib.Omega.{arith}
+use mathlib.Core.Path.{◌≡◌}
 use Prim.Native.Nat.{◌-◌, ◌≤◌}
-use Rattle.board.proofs.ScheduleLaws.{byte_next, bytes_all}
 use Rattle.board.specs.Archive.{OFFSETS_AT, offset_byte}
 use Rattle.slots.specs.Limits.{IDS}
 use Rattle.board.proofs.schedule.put_offsets.Given as goal

@@ -1,5 +1,4 @@
 -- `in_force` joins the new entries where the request is accepted. Assumes nothing.
-use borrow.Author.Rules.{rules}
 use Rattle.change.proofs.DecideLaws.{new_in_force, old_in_force}
 use Rattle.change.proofs.answering.in_force.Goals as goal
 

@@ -1,5 +1,4 @@
 -- `asked_bound` makes the definition's test. Assumes nothing.
-use borrow.Author.Rules.{rules}
 use mathlib.Core.Path.{◌∙◌}
 use Rattle.change.proofs.StageSteps.{short_bound, given_bound}
 use Rattle.change.proofs.before.asked_bound.Goals as goal

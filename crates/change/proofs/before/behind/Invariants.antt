@@ -1,15 +1,10 @@
 -- `behind` meets its contract: the loop's invariant is that no id below `id` is behind. Assumes nothing.
-use borrow.Author.Rules.{rules}
 use mathlib.Core.Option.{none}
-use mathlib.Core.Path.{◌≡◌, refl, sym, ap, ◌∙◌}
-use native.Mathlib.Omega.{arith}
+use mathlib.Core.Path.{◌≡◌}
 use Prim.Native.Nat.{◌-◌, ◌≤◌}
-use Rattle.change.proofs.StageSteps.{behind_test, behind_here, behind_end}
-use Rattle.change.specs.Stages.{is_behind}
-use Rattle.numbers.specs.declared.Verdict.TheVariants.{Refused}
+use Rattle.change.proofs.StageSteps.{behind_test}
 use Rattle.slots.specs.Below.{first}
 use Rattle.slots.specs.Limits.{IDS}
-use Rattle.timetable.proofs.ScanLaws.{first_more}
 use Rattle.timetable.specs.Columns.{unplaced}
 use Rattle.change.proofs.before.behind.Given as goal
 

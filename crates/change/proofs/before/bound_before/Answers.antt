@@ -1,5 +1,4 @@
 -- `bound_before` makes the definition's test. Assumes nothing.
-use borrow.Author.Rules.{rules}
 use mathlib.Core.Path.{sym, ◌∙◌}
 use Rattle.change.proofs.StageSteps.{listed_bound, new_bound}
 use Rattle.change.proofs.before.bound_before.Goals as goal

@@ -1,5 +1,4 @@
 -- `enter` makes the definition's test, whether the id is asked for. Assumes nothing.
-use borrow.Author.Rules.{rules}
 use mathlib.Core.Path.{◌∙◌}
 use Rattle.change.proofs.StageSteps.{enter_absent, enter_asked}
 use Rattle.timetable.specs.Timetable.{shortfall_after}

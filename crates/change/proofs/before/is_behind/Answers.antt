@@ -1,5 +1,4 @@
 -- `is_behind` asks whether the entry is listed, and whether its shortfall is not below 256 R, as the definition does. Assumes nothing.
-use borrow.Author.Rules.{rules}
 use Rattle.change.proofs.StageSteps.{behind_unlisted, behind_listed}
 use Rattle.timetable.proofs.ScanLaws.{refused, passed}
 use mathlib.Core.Bool.{not}

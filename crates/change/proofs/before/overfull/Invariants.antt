@@ -1,18 +1,13 @@
 -- `overfull` meets its contract: the loop's invariant is that `sum` is the running sum below `id`, and no sum so far passes 256. Assumes nothing.
-use borrow.Author.Rules.{rules}
 use mathlib.Core.List.{List}
 use mathlib.Core.Option.{none}
-use mathlib.Core.Path.{◌≡◌, refl, sym, ap, ◌∙◌}
-use native.Mathlib.Omega.{arith}
+use mathlib.Core.Path.{◌≡◌}
 use Prim.Native.Nat.{ℕ, ◌-◌, ◌≤◌}
-use Rattle.change.proofs.StageSteps.{over_test, over_here, over_next, over_end, weight_told}
+use Rattle.change.proofs.StageSteps.{over_test}
 use Rattle.change.specs.Stages.{weight_sum}
-use Rattle.numbers.specs.declared.Verdict.TheVariants.{Refused}
 use Rattle.slots.specs.Below.{first}
 use Rattle.slots.specs.Limits.{IDS, WHOLE}
-use Rattle.timetable.proofs.ColumnLaws.{unplaced_at}
 use Rattle.timetable.specs.Columns.{unplaced}
-use Rattle.timetable.specs.Timetable.{weight}
 use Rattle.change.proofs.before.overfull.Given as goal
 
 -- The running sum of the weights, whatever the other figures are, and no sum so far passes 256.

@@ -1,5 +1,4 @@
 -- `unplaced_row` takes each figure from its column, and the offset is 0. Assumes nothing.
-use borrow.Author.Rules.{rules}
 use mathlib.Core.Path.{sym}
 use native.Mathlib.Omega.{arith}
 use Rattle.timetable.proofs.ColumnLaws.{unplaced_at}

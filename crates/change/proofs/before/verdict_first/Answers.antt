@@ -1,5 +1,4 @@
 -- `verdict_first` asks the stages that need no entries in their order: at each return it is what their statement says. Assumes nothing.
-use borrow.Author.Rules.{rules}
 use mathlib.Core.Path.{sym, ap, ◌∙◌}
 use native.Mathlib.Omega.{arith}
 use Rattle.change.proofs.Stages.{first_tells}

@@ -1,5 +1,4 @@
 -- `verdict_listed` asks stages 7 and 8 in their order. Assumes nothing.
-use borrow.Author.Rules.{rules}
 use mathlib.Core.Path.{sym, ◌∙◌}
 use Rattle.change.specs.Stages.{stage_behind, stages_listed}
 use Rattle.numbers.proofs.ChainLaws.{first_one, first_passed, first_refused}

@@ -1,5 +1,4 @@
 -- `decide` reads the request, asks the stages, and searches where they pass: the answer's definition goes the same way. Assumes nothing.
-use borrow.Author.Rules.{rules}
 use lib.ListN.{length}
 use mathlib.Core.List.{List}
 use mathlib.Core.Path.{◌≡◌, sym, ap, ◌∙◌, subst}
@@ -27,12 +26,12 @@ returns-in-Refused c = λ t o.
 pub enter_all-requires : goal.enter_all-requires
 enter_all-requires c =
     let OldOf : Timetable → Type 0 =
-        λ t. let a = c.args in Old t a.base (from_columns a.old_periods.now a.old_offsets.now a.old_bounds.now a.old_shortfalls.now) in
+    λ t. let a = c.args in Old t a.base (from_columns a.old_periods.now a.old_offsets.now a.old_bounds.now a.old_shortfalls.now) in
     let first : (t : Timetable) → OldOf t
     → first_of (stages_first t c.read_request-read.result c.args.area) ≡ Passed =
-        λ t o. sym (c.verdict_first-first.ensures t o.sound o.base_is) ∙ c.in_default.is in
+    λ t o. sym (c.verdict_first-first.ensures t o.sound o.base_is) ∙ c.in_default.is in
     let later : (t : Timetable) → OldOf t → c.args.base.0 ≤ c.read_request-read.result.request.slot.0 =
-        λ t o. omega (arith, (first_passes t _ _ (first t o)).2, ap (λ (x : CoreSlot). x.0) o.base_is) in
+    λ t o. omega (arith, (first_passes t _ _ (first t o)).2, ap (λ (x : CoreSlot). x.0) o.base_is) in
     let w = c.requires.sound_with in
     record {
       old_shortfalls_value = (ranged_is _ (subst Ranged w.1.entries_are (sound_from w.0 w.1.sound).ranged), later w.0 w.1);
@@ -42,10 +41,10 @@ enter_all-requires c =
 pub verdict_listed-listed-requires : goal.verdict_listed-listed-requires
 verdict_listed-listed-requires c =
     let OldOf : Timetable → Type 0 =
-        λ t. let a = c.args in Old t a.base (from_columns a.old_periods.now a.old_offsets.now a.old_bounds.now a.old_shortfalls.now) in
+    λ t. let a = c.args in Old t a.base (from_columns a.old_periods.now a.old_offsets.now a.old_bounds.now a.old_shortfalls.now) in
     let first : (t : Timetable) → OldOf t
     → first_of (stages_first t c.read_request-read.result c.args.area) ≡ Passed =
-        λ t o. sym (c.verdict_first-first.ensures t o.sound o.base_is) ∙ c.in_default.is in
+    λ t o. sym (c.verdict_first-first.ensures t o.sound o.base_is) ∙ c.in_default.is in
     let w = c.requires.sound_with in
     let q = c.read_request-read.ensures in
     entered_periods _ _ _ _ _ _ _ c.enter_all.ensures (first_range w.0 _ _ _ q (first w.0 w.1)).asks
@@ -53,12 +52,12 @@ verdict_listed-listed-requires c =
 pub returns-in-Refused-listed : goal.returns-in-Refused-listed
 returns-in-Refused-listed c =
     let OldOf : Timetable → Type 0 =
-        λ t. let a = c.args in Old t a.base (from_columns a.old_periods.now a.old_offsets.now a.old_bounds.now a.old_shortfalls.now) in
+    λ t. let a = c.args in Old t a.base (from_columns a.old_periods.now a.old_offsets.now a.old_bounds.now a.old_shortfalls.now) in
     let first : (t : Timetable) → OldOf t
     → first_of (stages_first t c.read_request-read.result c.args.area) ≡ Passed =
-        λ t o. sym (c.verdict_first-first.ensures t o.sound o.base_is) ∙ c.in_default.is in
+    λ t o. sym (c.verdict_first-first.ensures t o.sound o.base_is) ∙ c.in_default.is in
     let later : (t : Timetable) → OldOf t → c.args.base.0 ≤ c.read_request-read.result.request.slot.0 =
-        λ t o. omega (arith, (first_passes t _ _ (first t o)).2, ap (λ (x : CoreSlot). x.0) o.base_is) in
+    λ t o. omega (arith, (first_passes t _ _ (first t o)).2, ap (λ (x : CoreSlot). x.0) o.base_is) in
     λ t o.
     let g = sym c.verdict_listed-listed.ensures ∙ c.in-Refused-listed.is in
     let q = c.read_request-read.ensures in
@@ -68,12 +67,12 @@ returns-in-Refused-listed c =
 pub search-found-requires : goal.search-found-requires
 search-found-requires c =
     let OldOf : Timetable → Type 0 =
-        λ t. let a = c.args in Old t a.base (from_columns a.old_periods.now a.old_offsets.now a.old_bounds.now a.old_shortfalls.now) in
+    λ t. let a = c.args in Old t a.base (from_columns a.old_periods.now a.old_offsets.now a.old_bounds.now a.old_shortfalls.now) in
     let first : (t : Timetable) → OldOf t
     → first_of (stages_first t c.read_request-read.result c.args.area) ≡ Passed =
-        λ t o. sym (c.verdict_first-first.ensures t o.sound o.base_is) ∙ c.in_default.is in
+    λ t o. sym (c.verdict_first-first.ensures t o.sound o.base_is) ∙ c.in_default.is in
     let later : (t : Timetable) → OldOf t → c.args.base.0 ≤ c.read_request-read.result.request.slot.0 =
-        λ t o. omega (arith, (first_passes t _ _ (first t o)).2, ap (λ (x : CoreSlot). x.0) o.base_is) in
+    λ t o. omega (arith, (first_passes t _ _ (first t o)).2, ap (λ (x : CoreSlot). x.0) o.base_is) in
     let t = c.requires.sound_with.0 in
     let o = c.requires.sound_with.1 in
     let g = sym c.verdict_listed-listed.ensures ∙ c.in_default-listed.is in
@@ -87,12 +86,12 @@ search-found-requires c =
 pub finish-requires : goal.finish-requires
 finish-requires c =
     let OldOf : Timetable → Type 0 =
-        λ t. let a = c.args in Old t a.base (from_columns a.old_periods.now a.old_offsets.now a.old_bounds.now a.old_shortfalls.now) in
+    λ t. let a = c.args in Old t a.base (from_columns a.old_periods.now a.old_offsets.now a.old_bounds.now a.old_shortfalls.now) in
     let first : (t : Timetable) → OldOf t
     → first_of (stages_first t c.read_request-read.result c.args.area) ≡ Passed =
-        λ t o. sym (c.verdict_first-first.ensures t o.sound o.base_is) ∙ c.in_default.is in
+    λ t o. sym (c.verdict_first-first.ensures t o.sound o.base_is) ∙ c.in_default.is in
     let later : (t : Timetable) → OldOf t → c.args.base.0 ≤ c.read_request-read.result.request.slot.0 =
-        λ t o. omega (arith, (first_passes t _ _ (first t o)).2, ap (λ (x : CoreSlot). x.0) o.base_is) in
+    λ t o. omega (arith, (first_passes t _ _ (first t o)).2, ap (λ (x : CoreSlot). x.0) o.base_is) in
     λ n k.
     let t = c.requires.sound_with.0 in
     let o = c.requires.sound_with.1 in
@@ -104,12 +103,12 @@ finish-requires c =
 pub returns : goal.returns
 returns c =
     let OldOf : Timetable → Type 0 =
-        λ t. let a = c.args in Old t a.base (from_columns a.old_periods.now a.old_offsets.now a.old_bounds.now a.old_shortfalls.now) in
+    λ t. let a = c.args in Old t a.base (from_columns a.old_periods.now a.old_offsets.now a.old_bounds.now a.old_shortfalls.now) in
     let first : (t : Timetable) → OldOf t
     → first_of (stages_first t c.read_request-read.result c.args.area) ≡ Passed =
-        λ t o. sym (c.verdict_first-first.ensures t o.sound o.base_is) ∙ c.in_default.is in
+    λ t o. sym (c.verdict_first-first.ensures t o.sound o.base_is) ∙ c.in_default.is in
     let later : (t : Timetable) → OldOf t → c.args.base.0 ≤ c.read_request-read.result.request.slot.0 =
-        λ t o. omega (arith, (first_passes t _ _ (first t o)).2, ap (λ (x : CoreSlot). x.0) o.base_is) in
+    λ t o. omega (arith, (first_passes t _ _ (first t o)).2, ap (λ (x : CoreSlot). x.0) o.base_is) in
     λ t o.
     let g = sym c.verdict_listed-listed.ensures ∙ c.in_default-listed.is in
     let q = c.read_request-read.ensures in

@@ -1,5 +1,4 @@
 -- `finish` takes the ending apart as the definition does. Assumes nothing.
-use borrow.Author.Rules.{rules}
 use native.Mathlib.Omega.{arith}
 use Rattle.change.proofs.DecideLaws.{ends_found, ends_missed, ends_exhausted}
 use Rattle.change.proofs.columns.finish.Goals as goal

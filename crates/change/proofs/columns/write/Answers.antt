@@ -1,5 +1,4 @@
 -- `write` puts the record of an acceptance into the area, and nothing of a refusal. Assumes nothing.
-use borrow.Author.Rules.{rules}
 use lib.ListN.{length}
 use lib.Seq.{sets}
 use mathlib.Core.List.{List}

@@ -1,5 +1,4 @@
 -- `standing_query` asks about the columns of the entries, which hold them. Assumes nothing.
-use borrow.Author.Rules.{rules}
 use mathlib.Core.Path.{ap, ◌∙◌}
 use Rattle.change.specs.Queries.{standing_query}
 use Rattle.timetable.proofs.ColumnLaws.{of_columns_lem}

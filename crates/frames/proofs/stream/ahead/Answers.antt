@@ -1,6 +1,5 @@
 -- `frames::stream::ahead` meets its contract: the header that it reads is that of what is unread, and its two tests tell whether the header and the content are cut off.
 -- Assumes nothing.
-use borrow.Author.Rules.{rules}
 use Rattle.frames.proofs.InputLaws.{head_cut, stands_frame, stands_none, stands_part}
 use Rattle.frames.proofs.stream.ahead.Goals as goal
 

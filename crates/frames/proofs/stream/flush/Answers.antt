@@ -1,6 +1,5 @@
 -- `frames::stream::flush` meets its contract: what waits lies in the buffer, so the part that is lent has its length.
 -- Assumes nothing.
-use borrow.Author.Rules.{rules}
 use lib.Seq.{length-take-le}
 use mathlib.Core.Path.{sym}
 use Rattle.frames.proofs.stream.flush.Goals as goal

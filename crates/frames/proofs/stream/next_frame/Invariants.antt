@@ -1,12 +1,9 @@
 -- `frames::stream::next_frame` meets its contract. The invariant: the places lie inside their buffers, nothing was put, and the program waits as it stood or with more read behind a part of a frame. The measure is how much longer that part may grow.
 -- Assumes nothing.
-use borrow.Author.Rules.{rules}
 use lib.ListN.{length}
-use mathlib.Core.Logic.{inl, inr}
-use mathlib.Core.Path.{◌≡◌, refl, sym, ◌∙◌}
-use Prim.Native.Nat.{◌-◌, zero-le}
-use Rattle.frames.proofs.BufferLaws.{Waiting, bad_awaited, frame_awaited, nothing_read, over_awaited, over_inside, reads_on}
-use Rattle.frames.proofs.InputLaws.{frame_ahead}
+use mathlib.Core.Path.{◌≡◌}
+use Prim.Native.Nat.{◌-◌}
+use Rattle.frames.proofs.BufferLaws.{Waiting}
 use Rattle.frames.specs.Buffers.{Reached}
 use Rattle.frames.proofs.stream.next_frame.Given as goal
 

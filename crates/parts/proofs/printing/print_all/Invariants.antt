@@ -1,6 +1,5 @@
 -- `parts::printing::print_all` is safe and ends. The invariant: the output ends inside its buffer, which keeps its length, and the place inside the bytes. The measure is what is left of them.
 -- Assumes nothing.
-use borrow.Author.Rules.{rules}
 use lib.ListN.{length}
 use mathlib.Core.Path.{◌≡◌}
 use Prim.Native.Nat.{◌-◌, ◌≤◌}

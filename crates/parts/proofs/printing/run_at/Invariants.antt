@@ -1,6 +1,5 @@
 -- `parts::printing::run_at` is safe and ends. The invariant: the run ends inside the image. The measure is what it may still grow by.
 -- Assumes nothing.
-use borrow.Author.Rules.{rules}
 use lib.ListN.{length}
 use Prim.Native.Nat.{◌+◌, ◌-◌, ◌≤◌}
 use Rattle.parts.proofs.printing.run_at.Given as goal

@@ -1,6 +1,5 @@
 -- `parts::printing::touched` is safe and ends. The invariant: the place lies inside the area. The measure is the place.
 -- Assumes nothing.
-use borrow.Author.Rules.{rules}
 use lib.ListN.{length}
 use Prim.Native.Nat.{◌≤◌}
 use Rattle.parts.proofs.printing.touched.Given as goal

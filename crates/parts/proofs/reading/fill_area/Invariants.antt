@@ -1,6 +1,5 @@
 -- `parts::reading::fill_area` is safe and ends. The invariant: the area keeps its length. The measure is what is left of it.
 -- Assumes nothing.
-use borrow.Author.Rules.{rules}
 use lib.ListN.{length}
 use mathlib.Core.Path.{◌≡◌}
 use Prim.Native.Nat.{◌-◌}

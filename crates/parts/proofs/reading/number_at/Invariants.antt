@@ -1,6 +1,5 @@
 -- `parts::reading::number_at` is safe and ends. The invariant: no more bytes are left than there were. The measure is the number of bytes that are left.
 -- Assumes nothing.
-use borrow.Author.Rules.{rules}
 use Prim.Native.Nat.{◌≤◌}
 use Rattle.parts.proofs.reading.number_at.Given as goal
 

@@ -1,11 +1,9 @@
 -- `mark` meets its contract. The loop's invariant: the slots of the offset in the words below the word are taken, and no others besides. Assumes nothing.
-use borrow.Author.Rules.{rules}
 use native.Mathlib.Omega.{arith}
-use Prim.Native.Nat.{◌-◌}
 use Rattle.placement.proofs.Table.{marked_all}
-use Rattle.timetable.proofs.Marks.{Marked, marked_none, marked_more}
+use Rattle.timetable.proofs.Marks.{marked_none, marked_more}
 use Rattle.timetable.proofs.Ranges.{Period, period_from, period_le}
-use Rattle.timetable.specs.Marks.{WORDS, with_bits}
+use Rattle.timetable.specs.Marks.{with_bits}
 use Rattle.placement.proofs.taken.mark.Goals as goal
 
 pub slots_in_word-slots-requires : goal.slots_in_word-slots-requires
@@ -14,19 +12,19 @@ slots_in_word-slots-requires c = c.requires
 pub overflow_add-stride : goal.overflow_add-stride
 overflow_add-stride c =
     let range : Period c.args.period =
-        period_from c.args.period c.requires.0 in
+    period_from c.args.period c.requires.0 in
     record { fits = omega (arith, period_le _ range) }
 
 pub loop-word-init : goal.loop-word-init
 loop-word-init c =
     let range : Period c.args.period =
-        period_from c.args.period c.requires.0 in
+    period_from c.args.period c.requires.0 in
     marked_none c.args.taken.now c.args.period c.args.offset range c.requires.1
 
 pub overflow_add-word : goal.overflow_add-word
 overflow_add-word c =
     let range : Period c.args.period =
-        period_from c.args.period c.requires.0 in
+    period_from c.args.period c.requires.0 in
     record { fits = omega (arith, period_le _ range) }
 
 pub loop-word-smaller : goal.loop-word-smaller
@@ -36,7 +34,7 @@ pub loop-word-preserved : goal.loop-word-preserved
 unfolding with_bits
 loop-word-preserved c =
     let range : Period c.args.period =
-        period_from c.args.period c.requires.0 in
+    period_from c.args.period c.requires.0 in
     let l = c.loop-word in
     let w = c.slots_in_word-slots in
     marked_more c.args.taken.now c.args.period c.args.offset range c.requires.1 w.result w.ensures l.taken l.word (omega (arith, c.loop-word-test.true)) l.invariant

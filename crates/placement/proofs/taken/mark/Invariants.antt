@@ -1,11 +1,7 @@
 -- `mark` meets its contract. The loop's invariant: the slots of the offset in the words below the word are taken, and no others besides. Assumes nothing.
-use borrow.Author.Rules.{rules}
-use native.Mathlib.Omega.{arith}
 use Prim.Native.Nat.{◌-◌}
-use Rattle.placement.proofs.Table.{marked_all}
-use Rattle.timetable.proofs.Marks.{Marked, marked_none, marked_more}
-use Rattle.timetable.proofs.Ranges.{Period, period_from, period_le}
-use Rattle.timetable.specs.Marks.{WORDS, with_bits}
+use Rattle.timetable.proofs.Marks.{Marked}
+use Rattle.timetable.specs.Marks.{WORDS}
 use Rattle.placement.proofs.taken.mark.Given as goal
 
 abbrev pub invariant-loop-word : goal.invariant-loop-word

@@ -1,5 +1,4 @@
 -- `take_last` meets its contract: an offset that is found is up to the last offset, and its slots are marked. Assumes nothing.
-use borrow.Author.Rules.{rules}
 use mathlib.Core.Path.{sym, ◌∙◌}
 use native.Mathlib.Omega.{arith}
 use Rattle.placement.proofs.Table.{same_offset, at_nowhere}

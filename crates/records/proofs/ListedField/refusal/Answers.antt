@@ -1,5 +1,4 @@
 -- A refused field holds the refusal that is given. Assumes nothing.
-use borrow.Author.Rules.{rules}
 use Rattle.records.proofs.ListedField.refusal.Goals as goal
 
 pub returns-in-Refused : goal.returns-in-Refused

@@ -1,5 +1,4 @@
 -- The content starts after the tag and the two bytes of the length. Assumes nothing.
-use borrow.Author.Rules.{rules}
 use mathlib.Core.Path.{refl}
 use Rattle.records.specs.Request.{content_at}
 use Rattle.records.proofs.fields.content_at.Goals as goal

@@ -1,5 +1,4 @@
 -- The tests are those of the definition: not cut off, the tag, the length that the field states. Assumes nothing.
-use borrow.Author.Rules.{rules}
 use borrow.Author.Tests.{eq-eqb, le-leb, lt-leb, ne_eqb}
 use lib.ListN.{get_or, length}
 use native.Mathlib.Omega.{arith}

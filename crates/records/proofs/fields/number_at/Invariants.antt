@@ -1,9 +1,6 @@
 -- The invariant: `number` is the number that the first n bytes write. Assumes nothing.
-use borrow.Author.Rules.{rules}
-use mathlib.Core.Path.{◌≡◌, refl}
-use native.Mathlib.Omega.{arith}
+use mathlib.Core.Path.{◌≡◌}
 use Prim.Native.Nat.{◌-◌, ◌≤◌}
-use Rattle.records.proofs.NumberLaws.{number_next, number_room}
 use Rattle.records.specs.Request.{number_at}
 use Rattle.records.proofs.fields.number_at.Given as goal
 

@@ -1,5 +1,4 @@
 -- The three stores are the run of the contract. Assumes nothing.
-use borrow.Author.Rules.{rules}
 use lib.ListN.{length-set}
 use mathlib.Core.Path.{◌≡◌}
 use native.Mathlib.Omega.{arith}

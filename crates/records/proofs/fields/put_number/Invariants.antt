@@ -1,10 +1,8 @@
 -- The invariant: the bytes that are left, put before those already put, are the whole number. Assumes nothing.
-use lib.ListN.{length, length-set}
+use lib.ListN.{length}
 use lib.Seq.{sets}
-use mathlib.Core.Path.{◌≡◌, refl, ◌∙◌}
-use native.Mathlib.Omega.{arith}
+use mathlib.Core.Path.{◌≡◌}
 use Prim.Native.Nat.{◌≤◌}
-use Rattle.records.proofs.NumberLaws.{number_put}
 use Rattle.records.specs.Written.{number_bytes}
 use Rattle.records.proofs.fields.put_number.Given as goal
 

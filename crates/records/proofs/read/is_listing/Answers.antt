@@ -1,5 +1,4 @@
 -- The id and the k are the first two bytes of the content, and the two tests are those of the definition. Assumes nothing.
-use borrow.Author.Rules.{rules}
 use borrow.Author.Tests.{le-ltb, lt-ltb}
 use native.Mathlib.Omega.{arith}
 use Rattle.records.specs.Request.{content_at, is_listing}

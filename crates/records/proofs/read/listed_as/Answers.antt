@@ -1,5 +1,4 @@
 -- The id is tested against the floor as in the definition, and the period is the power of the content's second byte. Assumes nothing.
-use borrow.Author.Rules.{rules}
 use borrow.Author.Tests.{le-leb, lt-leb}
 use native.Mathlib.Omega.{arith}
 use Rattle.records.specs.Request.{content_at, listed_as}

@@ -1,5 +1,4 @@
 -- The long form is tested first, then the short one, each for its range and then for its id, as in the definition. Assumes nothing.
-use borrow.Author.Rules.{rules}
 use borrow.Author.Tests.{not-false, not-true}
 use mathlib.Core.Bool.{true, false, ◌&&◌}
 use mathlib.Core.Path.{◌≡◌, sym, ap, ap₂, ◌∙◌}
@@ -15,19 +14,19 @@ use Rattle.records.proofs.read.listed_field.Goals as goal
 pub content_at-bound-requires : goal.content_at-bound-requires
 content_at-bound-requires c =
     let long : is_field c.args.s.now c.args.c.at 3 3 ≡ true =
-        sym c.is_field.ensures ∙ c.if-is_field.true in
+    sym c.is_field.ensures ∙ c.if-is_field.true in
     omega (arith, (field_inside _ _ 3 3 long).0)
 
 pub is_listing-requires : goal.is_listing-requires
 is_listing-requires c =
     let long : is_field c.args.s.now c.args.c.at 3 3 ≡ true =
-        sym c.is_field.ensures ∙ c.if-is_field.true in
+    sym c.is_field.ensures ∙ c.if-is_field.true in
     omega (arith, (field_inside _ _ 3 3 long).0)
 
 pub returns-then-not-is_listing : goal.returns-then-not-is_listing
 returns-then-not-is_listing c =
     let long : is_field c.args.s.now c.args.c.at 3 3 ≡ true =
-        sym c.is_field.ensures ∙ c.if-is_field.true in
+    sym c.is_field.ensures ∙ c.if-is_field.true in
     rw c.of.ensures
     (sym
     (listed_is _ _ _ _
@@ -38,7 +37,7 @@ returns-then-not-is_listing c =
 pub returns-then-not-is_bound : goal.returns-then-not-is_bound
 returns-then-not-is_bound c =
     let long : is_field c.args.s.now c.args.c.at 3 3 ≡ true =
-        sym c.is_field.ensures ∙ c.if-is_field.true in
+    sym c.is_field.ensures ∙ c.if-is_field.true in
     rw c.of-then-not-is_bound.ensures
     (sym
     (listed_is _ _ _ _
@@ -50,17 +49,17 @@ returns-then-not-is_bound c =
 pub overflow_add-at : goal.overflow_add-at
 overflow_add-at c =
     let long : is_field c.args.s.now c.args.c.at 3 3 ≡ true =
-        sym c.is_field.ensures ∙ c.if-is_field.true in
+    sym c.is_field.ensures ∙ c.if-is_field.true in
     omega (arith, (field_inside _ _ 3 3 long).0)
 
 pub listed_as-requires : goal.listed_as-requires
 listed_as-requires c =
     let long : is_field c.args.s.now c.args.c.at 3 3 ≡ true =
-        sym c.is_field.ensures ∙ c.if-is_field.true in
+    sym c.is_field.ensures ∙ c.if-is_field.true in
     let long-range : is_listing c.args.s.now c.args.c.at
     && is_bound (content_at c.args.s.now c.args.c.at 2)
     ≡ true =
-        ap₂ ◌&&◌ (sym c.is_listing.ensures ∙ not-false _ (ap not c.if-not-is_listing.false))
+    ap₂ ◌&&◌ (sym c.is_listing.ensures ∙ not-false _ (ap not c.if-not-is_listing.false))
     (ap is_bound (sym c.content_at-bound.ensures) ∙ sym c.is_bound.ensures ∙ not-false _ (ap not c.if-not-is_bound.false)) in
     let p = long in
     (omega (arith, (field_inside _ _ 3 3 p).0), (listed_range _ _ (ListedForm.long p) long-range).k_range)
@@ -68,11 +67,11 @@ listed_as-requires c =
 pub returns-then-is_field : goal.returns-then-is_field
 returns-then-is_field c =
     let long : is_field c.args.s.now c.args.c.at 3 3 ≡ true =
-        sym c.is_field.ensures ∙ c.if-is_field.true in
+    sym c.is_field.ensures ∙ c.if-is_field.true in
     let long-range : is_listing c.args.s.now c.args.c.at
     && is_bound (content_at c.args.s.now c.args.c.at 2)
     ≡ true =
-        ap₂ ◌&&◌ (sym c.is_listing.ensures ∙ not-false _ (ap not c.if-not-is_listing.false))
+    ap₂ ◌&&◌ (sym c.is_listing.ensures ∙ not-false _ (ap not c.if-not-is_listing.false))
     (ap is_bound (sym c.content_at-bound.ensures) ∙ sym c.is_bound.ensures ∙ not-false _ (ap not c.if-not-is_bound.false)) in
     c.listed_as.ensures
     ∙ rw c.content_at-bound.ensures
@@ -81,7 +80,7 @@ returns-then-is_field c =
 pub returns-then-not-is_field : goal.returns-then-not-is_field
 returns-then-not-is_field c =
     let not-long : is_field c.args.s.now c.args.c.at 3 3 ≡ false =
-        sym c.is_field.ensures ∙ c.if-is_field.false in
+    sym c.is_field.ensures ∙ c.if-is_field.false in
     rw c.of-then-not-is_field.ensures
     (sym
     (listed_is _ _ _ _
@@ -91,15 +90,15 @@ returns-then-not-is_field c =
 pub is_listing-requires-2 : goal.is_listing-requires-2
 is_listing-requires-2 c =
     let short : is_field c.args.s.now c.args.c.at 3 2 ≡ true =
-        sym c.is_field-2.ensures ∙ not-false _ (ap not c.if-not-is_field.false) in
+    sym c.is_field-2.ensures ∙ not-false _ (ap not c.if-not-is_field.false) in
     omega (arith, (field_inside _ _ 3 2 short).0)
 
 pub returns-then-not-is_listing-2 : goal.returns-then-not-is_listing-2
 returns-then-not-is_listing-2 c =
     let not-long : is_field c.args.s.now c.args.c.at 3 3 ≡ false =
-        sym c.is_field.ensures ∙ c.if-is_field.false in
+    sym c.is_field.ensures ∙ c.if-is_field.false in
     let short : is_field c.args.s.now c.args.c.at 3 2 ≡ true =
-        sym c.is_field-2.ensures ∙ not-false _ (ap not c.if-not-is_field.false) in
+    sym c.is_field-2.ensures ∙ not-false _ (ap not c.if-not-is_field.false) in
     rw c.of-then-not-is_listing-2.ensures
     (sym
     (listed_is _ _ _ _
@@ -110,18 +109,18 @@ returns-then-not-is_listing-2 c =
 pub overflow_add-at-2 : goal.overflow_add-at-2
 overflow_add-at-2 c =
     let short : is_field c.args.s.now c.args.c.at 3 2 ≡ true =
-        sym c.is_field-2.ensures ∙ not-false _ (ap not c.if-not-is_field.false) in
+    sym c.is_field-2.ensures ∙ not-false _ (ap not c.if-not-is_field.false) in
     omega (arith, (field_inside _ _ 3 2 short).0)
 
 pub listed_as-requires-2 : goal.listed_as-requires-2
 listed_as-requires-2 c =
     let not-long : is_field c.args.s.now c.args.c.at 3 3 ≡ false =
-        sym c.is_field.ensures ∙ c.if-is_field.false in
+    sym c.is_field.ensures ∙ c.if-is_field.false in
     let short : is_field c.args.s.now c.args.c.at 3 2 ≡ true =
-        sym c.is_field-2.ensures ∙ not-false _ (ap not c.if-not-is_field.false) in
+    sym c.is_field-2.ensures ∙ not-false _ (ap not c.if-not-is_field.false) in
     let short-range : is_listing c.args.s.now c.args.c.at
     ≡ true =
-        sym c.is_listing-2.ensures ∙ not-false _ (ap not c.if-not-is_listing-2.false) in
+    sym c.is_listing-2.ensures ∙ not-false _ (ap not c.if-not-is_listing-2.false) in
     let q = short in (
       omega (arith, (field_inside _ _ 3 2 q).0),
       (listed_range _ _ (ListedForm.short not-long q) short-range).k_range,
@@ -130,12 +129,12 @@ listed_as-requires-2 c =
 pub returns : goal.returns
 returns c =
     let not-long : is_field c.args.s.now c.args.c.at 3 3 ≡ false =
-        sym c.is_field.ensures ∙ c.if-is_field.false in
+    sym c.is_field.ensures ∙ c.if-is_field.false in
     let short : is_field c.args.s.now c.args.c.at 3 2 ≡ true =
-        sym c.is_field-2.ensures ∙ not-false _ (ap not c.if-not-is_field.false) in
+    sym c.is_field-2.ensures ∙ not-false _ (ap not c.if-not-is_field.false) in
     let short-range : is_listing c.args.s.now c.args.c.at
     ≡ true =
-        sym c.is_listing-2.ensures ∙ not-false _ (ap not c.if-not-is_listing-2.false) in
+    sym c.is_listing-2.ensures ∙ not-false _ (ap not c.if-not-is_listing-2.false) in
     c.listed_as-2.ensures
     ∙ sym
     (listed_tested _ _ _ (ListedForm.short not-long short)

@@ -1,5 +1,4 @@
 -- A shift of 1 by k is 2^k, which fits for a k up to 8. Assumes nothing.
-use borrow.Author.Rules.{rules}
 use native.Mathlib.Nat.{pow-le-pow_right}
 use native.Mathlib.Omega.{arith}
 use Rattle.records.proofs.read.power.Goals as goal

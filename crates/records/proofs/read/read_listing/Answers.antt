@@ -1,13 +1,10 @@
 -- The invariant: the listing from the first place is the listing from `at` on, with ids from `floor` and what was read so far. Assumes nothing.
-use borrow.Author.Rules.{rules}
-use mathlib.Core.Path.{◌≡◌, sym, ap, ◌∙◌}
+use mathlib.Core.Path.{sym, ap, ◌∙◌}
 use native.Mathlib.Omega.{arith}
-use Prim.Native.Nat.{◌-◌}
 use Rattle.records.proofs.NextStep.{Ahead, listed_ahead, listing_end, listing_floor, listing_step, listing_after, listing_at}
 use Rattle.records.specs.declared.ListedField.TheVariants.{Value}
 use Rattle.records.specs.declared.Reading.TheVariants.{Refused}
 use Rattle.numbers.specs.declared.Refusal.{Refusal}
-use Rattle.records.specs.Request.{no_asks}
 use Rattle.records.proofs.read.read_listing.Goals as goal
 
 pub loop-at-init : goal.loop-at-init
@@ -28,7 +25,7 @@ unfolding Ahead
 overflow_cast-asks c =
     let ahead : Ahead c.loop-at.at
     (Value c.in-Value.listed c.in-Value.next) =
-        listed_ahead _ _ _ _ (sym c.listed_field-field.ensures ∙ c.in-Value.is) in
+    listed_ahead _ _ _ _ (sym c.listed_field-field.ensures ∙ c.in-Value.is) in
     omega (arith, ahead.0)
 
 pub offset_bounds-asks-id : goal.offset_bounds-asks-id
@@ -36,7 +33,7 @@ unfolding Ahead
 offset_bounds-asks-id c =
     let ahead : Ahead c.loop-at.at
     (Value c.in-Value.listed c.in-Value.next) =
-        listed_ahead _ _ _ _ (sym c.listed_field-field.ensures ∙ c.in-Value.is) in
+    listed_ahead _ _ _ _ (sym c.listed_field-field.ensures ∙ c.in-Value.is) in
     omega (arith, ahead.0)
 
 pub bounds-asks-id : goal.bounds-asks-id
@@ -44,7 +41,7 @@ unfolding Ahead
 bounds-asks-id c =
     let ahead : Ahead c.loop-at.at
     (Value c.in-Value.listed c.in-Value.next) =
-        listed_ahead _ _ _ _ (sym c.listed_field-field.ensures ∙ c.in-Value.is) in
+    listed_ahead _ _ _ _ (sym c.listed_field-field.ensures ∙ c.in-Value.is) in
     ahead.0
 
 pub overflow_add-floor : goal.overflow_add-floor
@@ -52,7 +49,7 @@ unfolding Ahead
 overflow_add-floor c =
     let ahead : Ahead c.loop-at.at
     (Value c.in-Value.listed c.in-Value.next) =
-        listed_ahead _ _ _ _ (sym c.listed_field-field.ensures ∙ c.in-Value.is) in
+    listed_ahead _ _ _ _ (sym c.listed_field-field.ensures ∙ c.in-Value.is) in
     omega (arith, ahead.0)
 
 pub loop-at-smaller : goal.loop-at-smaller
@@ -60,7 +57,7 @@ unfolding Ahead
 loop-at-smaller c =
     let ahead : Ahead c.loop-at.at
     (Value c.in-Value.listed c.in-Value.next) =
-        listed_ahead _ _ _ _ (sym c.listed_field-field.ensures ∙ c.in-Value.is) in
+    listed_ahead _ _ _ _ (sym c.listed_field-field.ensures ∙ c.in-Value.is) in
     omega (arith, ahead.1)
 
 pub loop-at-preserved : goal.loop-at-preserved

@@ -1,12 +1,7 @@
 -- The invariant: the listing from the first place is the listing from `at` on, with ids from `floor` and what was read so far. Assumes nothing.
-use borrow.Author.Rules.{rules}
-use mathlib.Core.Path.{◌≡◌, sym, ap, ◌∙◌}
-use native.Mathlib.Omega.{arith}
+use mathlib.Core.Path.{◌≡◌}
 use Prim.Native.Nat.{◌-◌}
-use Rattle.records.proofs.NextStep.{Ahead, listed_ahead, listing_end, listing_floor, listing_step, listing_after, listing_at}
-use Rattle.records.specs.declared.ListedField.TheVariants.{Value}
-use Rattle.records.specs.declared.Reading.TheVariants.{Refused}
-use Rattle.numbers.specs.declared.Refusal.{Refusal}
+use Rattle.records.proofs.NextStep.{listing_at}
 use Rattle.records.specs.Request.{no_asks}
 use Rattle.records.proofs.read.read_listing.Given as goal
 

@@ -1,5 +1,4 @@
 -- Each field is read as in the definition, and the first that is refused gives its refusal. Assumes nothing.
-use borrow.Author.Rules.{rules}
 use mathlib.Core.Path.{sym, ap, ◌∙◌}
 use native.Mathlib.Omega.{arith}
 use Rattle.records.proofs.NextStep.{number_most, request_listing, request_no_limit, request_no_slot}

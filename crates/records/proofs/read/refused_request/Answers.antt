@@ -1,5 +1,4 @@
 -- It is the refused request of the definition. Assumes nothing.
-use borrow.Author.Rules.{rules}
 use Rattle.records.specs.Request.{refused_request}
 use Rattle.records.proofs.read.refused_request.Goals as goal
 

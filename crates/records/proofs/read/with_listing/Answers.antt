@@ -1,5 +1,4 @@
 -- The reading decides as in the definition. Assumes nothing.
-use borrow.Author.Rules.{rules}
 use mathlib.Core.Path.{sym, ◌∙◌}
 use Rattle.records.proofs.NextStep.{listing_refused, listing_whole}
 use Rattle.records.proofs.read.with_listing.Goals as goal

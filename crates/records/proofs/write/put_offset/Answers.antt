@@ -1,5 +1,4 @@
 -- The head of the field, then its two bytes behind it. Assumes nothing.
-use borrow.Author.Rules.{rules}
 use lib.ListN.{length-set}
 use mathlib.Core.Path.{refl}
 use native.Mathlib.Omega.{arith}

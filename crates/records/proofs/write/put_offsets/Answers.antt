@@ -1,12 +1,11 @@
 -- The invariant: the offsets of the ids below `id` are stored from `from` on, and `at` is the place after them. Assumes nothing.
 use lib.ListN.{length}
 use mathlib.Core.List.{List, []}
-use mathlib.Core.Logic.{⊎_elim}
 use mathlib.Core.Path.{◌≡◌, refl, sym, ap, ◌∙◌}
 use native.Mathlib.Nat.{add-zero}
 use native.Mathlib.Omega.{arith}
-use Prim.Native.Nat.{ℕ, ◌-◌, ◌≤◌}
-use Rattle.records.proofs.AreaLaws.{Stored, offsets_room, stored_listed, stored_same}
+use Prim.Native.Nat.{ℕ}
+use Rattle.records.proofs.AreaLaws.{offsets_room, stored_listed, stored_same}
 use Rattle.records.specs.Answer.{rising}
 use Rattle.slots.specs.Limits.{IDS}
 use Rattle.timetable.proofs.ColumnLaws.{columns_at}

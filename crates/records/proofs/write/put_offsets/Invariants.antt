@@ -1,15 +1,10 @@
 -- The invariant: the offsets of the ids below `id` are stored from `from` on, and `at` is the place after them. Assumes nothing.
 use lib.ListN.{length}
 use mathlib.Core.List.{List, []}
-use mathlib.Core.Logic.{⊎_elim}
-use mathlib.Core.Path.{◌≡◌, refl, sym, ap, ◌∙◌}
-use native.Mathlib.Nat.{add-zero}
-use native.Mathlib.Omega.{arith}
+use mathlib.Core.Path.{◌≡◌}
 use Prim.Native.Nat.{ℕ, ◌-◌, ◌≤◌}
-use Rattle.records.proofs.AreaLaws.{Stored, offsets_room, stored_listed, stored_same}
-use Rattle.records.specs.Answer.{rising}
+use Rattle.records.proofs.AreaLaws.{Stored}
 use Rattle.slots.specs.Limits.{IDS}
-use Rattle.timetable.proofs.ColumnLaws.{columns_at}
 use Rattle.timetable.specs.Columns.{from_columns}
 use Rattle.timetable.specs.declared.Entry.{Entry}
 use Rattle.records.proofs.write.put_offsets.Given as goal

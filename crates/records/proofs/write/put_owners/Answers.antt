@@ -1,9 +1,7 @@
 -- The invariant: the first n owners are stored from `from` on. Assumes nothing.
-use lib.ListN.{length, length-set, take}
-use lib.Seq.{sets}
+use lib.ListN.{length-set}
 use mathlib.Core.Path.{◌≡◌, refl}
 use native.Mathlib.Omega.{arith}
-use Prim.Native.Nat.{◌-◌, ◌≤◌}
 use Rattle.records.proofs.SetsLaws.{sets_next}
 use Rattle.records.proofs.write.put_owners.Goals as goal
 

@@ -1,10 +1,8 @@
 -- The invariant: the first n owners are stored from `from` on. Assumes nothing.
-use lib.ListN.{length, length-set, take}
+use lib.ListN.{length, take}
 use lib.Seq.{sets}
-use mathlib.Core.Path.{◌≡◌, refl}
-use native.Mathlib.Omega.{arith}
+use mathlib.Core.Path.{◌≡◌}
 use Prim.Native.Nat.{◌-◌, ◌≤◌}
-use Rattle.records.proofs.SetsLaws.{sets_next}
 use Rattle.records.proofs.write.put_owners.Given as goal
 
 abbrev pub invariant-loop-n : goal.invariant-loop-n

@@ -1,5 +1,4 @@
 -- The fields are stored one behind the other, each from where the one before ends, and no store changes the area's length. Assumes nothing.
-use borrow.Author.Rules.{rules}
 use lib.ListN.{length, length-set}
 use mathlib.Core.List.{[]}
 use mathlib.Core.Path.{◌≡◌, ◌∙◌}
@@ -14,13 +13,13 @@ put_head-requires-2 c = simp length-set (omega arith)
 pub put_owners-at-requires : goal.put_owners-at-requires
 put_owners-at-requires c =
     let kept : length c.put_head-2.new.area ≡ length c.args.area.now =
-        c.put_head-2.auto.area ∙ simp length-set c.put_head.auto.area in
+    c.put_head-2.auto.area ∙ simp length-set c.put_head.auto.area in
     omega (arith, kept)
 
 pub put_offsets-requires : goal.put_offsets-requires
 put_offsets-requires c =
     let kept : length c.put_head-2.new.area ≡ length c.args.area.now =
-        c.put_head-2.auto.area ∙ simp length-set c.put_head.auto.area in
+    c.put_head-2.auto.area ∙ simp length-set c.put_head.auto.area in
     omega (arith, kept, c.put_owners-at.auto.area, c.put_owners-at.ensures.0, c.requires)
 
 pub returns : goal.returns

@@ -1,5 +1,4 @@
 -- `bears` asks what the definition asks of a listed entry's start, or of another's. Assumes nothing.
-use borrow.Author.Rules.{rules}
 use mathlib.Core.Path.{sym, ◌∙◌}
 use Rattle.timetable.proofs.SoundLaws.{bears_listed, bears_unlisted}
 use Rattle.timetable.proofs.Entry.bears.Goals as goal

@@ -1,5 +1,4 @@
 -- `is_absent` asks the definition's three questions in order. Assumes nothing.
-use borrow.Author.Rules.{rules}
 use mathlib.Core.Path.{sym}
 use Rattle.timetable.proofs.SoundLaws.{absent_offset, absent_bound, absent_shortfall}
 use Rattle.timetable.proofs.Entry.is_absent.Goals as goal

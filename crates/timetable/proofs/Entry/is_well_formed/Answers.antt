@@ -1,5 +1,4 @@
 -- `is_well_formed` asks what the definition asks of a listed entry, or of another. Assumes nothing.
-use borrow.Author.Rules.{rules}
 use mathlib.Core.Path.{sym, ◌∙◌}
 use Rattle.timetable.proofs.SoundLaws.{formed_listed, formed_absent}
 use Rattle.timetable.proofs.Entry.is_well_formed.Goals as goal

@@ -1,5 +1,4 @@
 -- `slices_after` follows the closed form: no slice up to the first own slot, then one for it and one for each whole period since. Assumes nothing.
-use borrow.Author.Rules.{rules}
 use mathlib.Core.Path.{sym, ap}
 use native.Mathlib.Nat.{div-le_self}
 use native.Mathlib.Omega.{arith}

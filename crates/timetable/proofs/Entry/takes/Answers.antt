@@ -1,5 +1,4 @@
 -- `takes` asks the definition's two questions, of the period and of the remainder. Assumes nothing.
-use borrow.Author.Rules.{rules}
 use lib.Dec.{eqb}
 use mathlib.Core.Path.{sym, ap, ◌∙◌}
 use Prim.Native.Nat.{ℕ}

@@ -1,5 +1,4 @@
 -- `is_sound` asks about the columns of its entries, which hold them. Assumes nothing.
-use borrow.Author.Rules.{rules}
 use mathlib.Core.Path.{ap, ◌∙◌}
 use Rattle.timetable.proofs.ColumnLaws.{of_columns_lem}
 use Rattle.timetable.specs.Sound.{is_sound}

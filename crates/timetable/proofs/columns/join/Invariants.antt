@@ -1,12 +1,9 @@
 -- `join` meets its contract: the loop's invariant is that the entries of the ids below `id` are put. Assumes nothing.
-use borrow.Author.Rules.{rules}
-use mathlib.Core.Path.{◌≡◌, ap}
-use native.Mathlib.Omega.{arith}
+use mathlib.Core.Path.{◌≡◌}
 use Prim.Native.Nat.{◌-◌, ◌≤◌}
 use lib.ListN.{replicate}
 use Rattle.slots.specs.Limits.{IDS}
-use Rattle.timetable.proofs.Entries.{each_all, each_next}
-use Rattle.timetable.specs.Columns.{from_columns, row_of}
+use Rattle.timetable.specs.Columns.{row_of}
 use Rattle.timetable.specs.Timetable.{each, no_entry}
 use Rattle.timetable.proofs.columns.join.Given as goal
 

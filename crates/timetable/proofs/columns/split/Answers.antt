@@ -2,9 +2,7 @@
 use borrow.Author.Rules.{rules}
 use mathlib.Core.Path.{refl}
 use native.Mathlib.Omega.{arith}
-use Prim.Native.Nat.{◌-◌, ◌≤◌}
-use Rattle.slots.specs.Limits.{IDS}
-use Rattle.timetable.proofs.ColumnLaws.{Columned, columned_all, columned_next, columned_nothing}
+use Rattle.timetable.proofs.ColumnLaws.{columned_all, columned_next, columned_nothing}
 use Rattle.timetable.proofs.columns.split.Goals as goal
 
 pub loop-id-init : goal.loop-id-init

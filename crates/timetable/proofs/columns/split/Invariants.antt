@@ -1,10 +1,7 @@
 -- `split` meets its contract: the loop's invariant is that the columns hold the figures of the ids below `id`. Assumes nothing.
-use borrow.Author.Rules.{rules}
-use mathlib.Core.Path.{refl}
-use native.Mathlib.Omega.{arith}
 use Prim.Native.Nat.{◌-◌, ◌≤◌}
 use Rattle.slots.specs.Limits.{IDS}
-use Rattle.timetable.proofs.ColumnLaws.{Columned, columned_all, columned_next, columned_nothing}
+use Rattle.timetable.proofs.ColumnLaws.{Columned}
 use Rattle.timetable.proofs.columns.split.Given as goal
 
 abbrev pub invariant-loop-id : goal.invariant-loop-id

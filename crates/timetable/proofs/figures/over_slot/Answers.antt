@@ -1,5 +1,4 @@
 -- `over_slot` adds the weight, and an own slot then pays. Assumes nothing.
-use borrow.Author.Rules.{rules}
 use mathlib.Core.Path.{sym}
 use Rattle.timetable.proofs.EntryLaws.{over_own, over_other}
 use Rattle.timetable.proofs.figures.over_slot.Goals as goal

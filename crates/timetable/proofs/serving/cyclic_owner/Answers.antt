@@ -1,11 +1,8 @@
 -- `cyclic_owner` meets its contract: the loop's invariant is that no id below `id` has the slot. Assumes nothing.
-use borrow.Author.Rules.{rules}
 use mathlib.Core.Bool.{true}
 use mathlib.Core.List.{List}
-use mathlib.Core.Option.{none}
 use mathlib.Core.Path.{◌≡◌, refl, sym, ap, ◌∙◌, subst}
 use native.Mathlib.Omega.{arith}
-use Prim.Native.Nat.{◌-◌, ◌≤◌}
 use Rattle.slots.specs.Below.{first}
 use Rattle.slots.specs.Limits.{IDS}
 use Rattle.timetable.proofs.ColumnLaws.{columns_at}
@@ -26,9 +23,9 @@ loop-id-init c = (omega arith, refl)
 pub takes-requires : goal.takes-requires
 takes-requires c =
     let entries : List Entry =
-        from_columns c.args.periods.now c.args.offsets.now c.args.bounds.now c.args.shortfalls.now in
+    from_columns c.args.periods.now c.args.offsets.now c.args.bounds.now c.args.shortfalls.now in
     let here : c.row-e.result ≡ entry_of entries c.loop-id.id =
-        let a = c.args in
+    let a = c.args in
     c.row-e.ensures ∙ sym (columns_at a.periods.now a.offsets.now a.bounds.now a.shortfalls.now c.loop-id.id c.loop-id-test.true) in
     subst (λ (e : Entry). is_listed e ≡ true → entry_in_range e ≡ true) (sym here) (entry_range entries c.loop-id.id c.requires c.loop-id-test.true)
 
@@ -36,24 +33,24 @@ pub returns-then-takes : goal.returns-then-takes
 unfolding owner_number
 returns-then-takes c =
     let entries : List Entry =
-        from_columns c.args.periods.now c.args.offsets.now c.args.bounds.now c.args.shortfalls.now in
+    from_columns c.args.periods.now c.args.offsets.now c.args.bounds.now c.args.shortfalls.now in
     let here : c.row-e.result ≡ entry_of entries c.loop-id.id =
-        let a = c.args in
+    let a = c.args in
     c.row-e.ensures ∙ sym (columns_at a.periods.now a.offsets.now a.bounds.now a.shortfalls.now c.loop-id.id c.loop-id-test.true) in
     let told : c.takes.result ≡ owns entries c.args.n c.loop-id.id =
-        c.takes.ensures ∙ ap (λ (e : Entry). cyclic e c.args.n) here in
+    c.takes.ensures ∙ ap (λ (e : Entry). cyclic e c.args.n) here in
     let l = c.loop-id in
     sym (ap owner_number (first_here (owns entries c.args.n) l.id IDS c.loop-id-test.true l.invariant.1 (sym told ∙ c.if-takes.true)))
 
 pub loop-id-preserved : goal.loop-id-preserved
 loop-id-preserved c =
     let entries : List Entry =
-        from_columns c.args.periods.now c.args.offsets.now c.args.bounds.now c.args.shortfalls.now in
+    from_columns c.args.periods.now c.args.offsets.now c.args.bounds.now c.args.shortfalls.now in
     let here : c.row-e.result ≡ entry_of entries c.loop-id.id =
-        let a = c.args in
+    let a = c.args in
     c.row-e.ensures ∙ sym (columns_at a.periods.now a.offsets.now a.bounds.now a.shortfalls.now c.loop-id.id c.loop-id-test.true) in
     let told : c.takes.result ≡ owns entries c.args.n c.loop-id.id =
-        c.takes.ensures ∙ ap (λ (e : Entry). cyclic e c.args.n) here in
+    c.takes.ensures ∙ ap (λ (e : Entry). cyclic e c.args.n) here in
     let l = c.loop-id in
     (omega arith, first_more (owns entries c.args.n) l.id l.invariant.1 (sym told ∙ c.if-takes.false))
 
@@ -61,6 +58,6 @@ pub returns : goal.returns
 unfolding owner_number
 returns c =
     let entries : List Entry =
-        from_columns c.args.periods.now c.args.offsets.now c.args.bounds.now c.args.shortfalls.now in
+    from_columns c.args.periods.now c.args.offsets.now c.args.bounds.now c.args.shortfalls.now in
     let l = c.loop-id in
     sym (ap owner_number (first_end (owns entries c.args.n) l.id IDS c.loop-id-test.false l.invariant.0 l.invariant.1))

@@ -1,7 +1,7 @@
 -- `transition_shortfall` meets its contract: the loop's invariant is that the shortfall is the one after `k` transition slots. Assumes nothing.
-use mathlib.Core.Path.{◌≡◌, refl}
+use mathlib.Core.Path.{refl}
 use native.Mathlib.Omega.{arith}
-use Prim.Native.Nat.{◌+◌, ◌-◌, ◌≤◌}
+use Prim.Native.Nat.{◌+◌, ◌≤◌}
 use Rattle.timetable.proofs.WalkLaws.{step_small, walk_all, walk_next}
 use Rattle.timetable.specs.Timetable.{transition_shortfall}
 use Rattle.timetable.proofs.serving.transition_shortfall.Goals as goal

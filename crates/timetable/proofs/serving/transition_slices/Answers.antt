@@ -1,8 +1,7 @@
 -- `transition_slices` meets its contract: the loop's invariant is that the slices are those among the first `k` transition slots. Assumes nothing.
-use mathlib.Core.Logic.{inl, inr}
 use mathlib.Core.Path.{◌≡◌, refl, ◌∙◌}
 use native.Mathlib.Omega.{arith}
-use Prim.Native.Nat.{◌-◌, ◌+◌, ◌≤◌}
+use Prim.Native.Nat.{◌+◌}
 use Rattle.slots.specs.Below.{count}
 use Rattle.timetable.proofs.WalkLaws.{owns, slices_all, slices_few, slices_own, slices_other}
 use Rattle.timetable.proofs.serving.transition_slices.Goals as goal
@@ -28,11 +27,13 @@ loop-k-smaller c = omega (arith, c.loop-k-test.true)
 pub loop-k-preserved : goal.loop-k-preserved
 loop-k-preserved c =
     let os = c.args.owners.now in
-    let i = c.args.id in
-    (omega (arith, c.loop-k-test.true), elim c.if-id-owners.branch as (λ _. c.if-id-owners.slices ≡ count (c.loop-k.k + 1) (owns os i)) [
-      | then-id-owners w ↦ w.slices-is ∙ slices_own os i c.loop-k.k c.loop-k.slices w.if-id-owners.true c.loop-k.invariant.1
-      | else-id-owners w ↦ w.slices-is ∙ slices_other os i c.loop-k.k c.loop-k.slices w.if-id-owners.false c.loop-k.invariant.1
-    ])
+    let i = c.args.id in (
+      omega (arith, c.loop-k-test.true),
+      elim c.if-id-owners.branch as (λ _. c.if-id-owners.slices ≡ count (c.loop-k.k + 1) (owns os i)) [
+        | then-id-owners w ↦ w.slices-is ∙ slices_own os i c.loop-k.k c.loop-k.slices w.if-id-owners.true c.loop-k.invariant.1
+        | else-id-owners w ↦ w.slices-is ∙ slices_other os i c.loop-k.k c.loop-k.slices w.if-id-owners.false c.loop-k.invariant.1
+      ],
+    )
 
 pub returns : goal.returns
 returns c =

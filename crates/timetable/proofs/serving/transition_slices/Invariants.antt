@@ -1,10 +1,8 @@
 -- `transition_slices` meets its contract: the loop's invariant is that the slices are those among the first `k` transition slots. Assumes nothing.
-use mathlib.Core.Logic.{inl, inr}
-use mathlib.Core.Path.{◌≡◌, refl, ◌∙◌}
-use native.Mathlib.Omega.{arith}
-use Prim.Native.Nat.{◌-◌, ◌+◌, ◌≤◌}
+use mathlib.Core.Path.{◌≡◌}
+use Prim.Native.Nat.{◌-◌, ◌≤◌}
 use Rattle.slots.specs.Below.{count}
-use Rattle.timetable.proofs.WalkLaws.{owns, slices_all, slices_few, slices_own, slices_other}
+use Rattle.timetable.proofs.WalkLaws.{owns}
 use Rattle.timetable.proofs.serving.transition_slices.Given as goal
 
 abbrev pub invariant-loop-k : goal.invariant-loop-k

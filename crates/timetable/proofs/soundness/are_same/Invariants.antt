@@ -1,17 +1,12 @@
 -- `are_same` meets its contract: the loop's invariant is that no bit differs so far exactly if each id below `id` has the same in both. Assumes nothing.
-use borrow.Author.Rules.{rules}
-use lib.Bits.{bit_xor}
 use lib.Dec.{eqb}
 use lib.ListN.{get_or}
 use mathlib.Core.Bool.{Bool}
 use mathlib.Core.List.{List}
-use mathlib.Core.Path.{◌≡◌, refl}
-use native.Mathlib.Omega.{arith}
+use mathlib.Core.Path.{◌≡◌}
 use Prim.Native.Nat.{ℕ, ◌-◌, ◌≤◌}
 use Rattle.slots.specs.Below.{every}
 use Rattle.slots.specs.Limits.{IDS}
-use Rattle.timetable.proofs.Bits.{none_differs, none_more}
-use Rattle.timetable.proofs.ScanLaws.{every_end, every_next}
 use Rattle.timetable.proofs.soundness.are_same.Given as goal
 
 -- What is asked of id i.

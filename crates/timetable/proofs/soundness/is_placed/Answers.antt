@@ -1,5 +1,4 @@
 -- `is_placed` asks for the request slot and the length first, so that their sum fits, and then for the base. Assumes nothing.
-use borrow.Author.Rules.{rules}
 use mathlib.Core.Path.{sym}
 use Rattle.timetable.proofs.SoundLaws.{placed_late, placed_long, placed_base}
 use Rattle.timetable.proofs.soundness.is_placed.Goals as goal

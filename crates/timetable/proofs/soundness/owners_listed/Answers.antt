@@ -1,9 +1,7 @@
 -- `owners_listed` meets its contract: the loop's invariant is that the owner of each transition slot below `n` is an id with a weight. Assumes nothing.
-use borrow.Author.Rules.{rules}
 use mathlib.Core.Bool.{true, false}
-use mathlib.Core.Path.{◌≡◌, refl, sym}
+use mathlib.Core.Path.{refl, sym}
 use native.Mathlib.Omega.{arith}
-use Prim.Native.Nat.{◌-◌, ◌≤◌}
 use Rattle.slots.specs.Below.{every}
 use Rattle.timetable.proofs.ScanLaws.{scan_stops, scan_goes, scan_ends}
 use Rattle.timetable.proofs.SoundLaws.{weighs_foreign, weighs_nothing, weighs_some}

@@ -1,9 +1,6 @@
 -- `slots_in_word` meets its contract. The loop's invariant: the bits are those of the offset's slots as far as they reach. Assumes nothing.
-use borrow.Author.Rules.{rules}
 use native.Mathlib.Omega.{arith}
-use Prim.Native.Nat.{◌-◌}
-use Rattle.timetable.proofs.TakenLaws.{Reaches, reaches_first, reaches_twice, reaches_all}
-use Rattle.timetable.specs.Marks.{WORD}
+use Rattle.timetable.proofs.TakenLaws.{reaches_first, reaches_twice, reaches_all}
 use Rattle.timetable.proofs.soundness.slots_in_word.Goals as goal
 
 pub loop-reach-init : goal.loop-reach-init

@@ -1,10 +1,6 @@
 -- `unused_owners_zero` meets its contract: the loop's invariant is that no bit is set so far exactly if each place below `n` is used or zero. Assumes nothing.
-use borrow.Author.Rules.{rules}
-use lib.Dec.{eqb}
-use mathlib.Core.Path.{◌≡◌, sym}
+use mathlib.Core.Path.{sym}
 use native.Mathlib.Omega.{arith}
-use Prim.Native.Nat.{◌-◌, ◌≤◌}
-use Rattle.slots.specs.Below.{every}
 use Rattle.slots.specs.Limits.{LONGEST}
 use Rattle.timetable.proofs.Bits.{none_more}
 use Rattle.timetable.proofs.ScanLaws.{every_end, every_next}

@@ -1,9 +1,6 @@
 -- `walk` meets its contract: the loop's invariant is what each id would be owed at the base after `n` transition slots, without those left. Assumes nothing.
-use lib.ListN.{get_or}
-use native.Mathlib.Omega.{arith}
-use Prim.Native.Nat.{◌-◌, ◌*◌, ◌≤◌, ◌<◌}
-use Rattle.slots.specs.Limits.{IDS}
-use Rattle.timetable.proofs.WalkLaws.{Owed, owed_after, owed_before, owed_next, owed_small, rest_there}
+use Prim.Native.Nat.{◌-◌, ◌≤◌}
+use Rattle.timetable.proofs.WalkLaws.{Owed}
 use Rattle.timetable.proofs.soundness.walk.Given as goal
 
 abbrev pub invariant-loop-n : goal.invariant-loop-n

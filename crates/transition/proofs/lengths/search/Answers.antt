@@ -1,11 +1,8 @@
 -- `search` meets its contract. The loop's invariant: n lengths were passed over and counted, the columns are those of the plan that length n
 -- reaches, the order lists the ids, and the definition's search goes on from there. Each way to leave gives the definition's answer. Assumes nothing.
-use borrow.Author.Rules.{rules}
 use borrow.Author.Tests.{not-true, not-false}
 use native.Mathlib.Omega.{arith}
-use Prim.Native.Nat.{◌-◌}
-use Rattle.transition.proofs.SearchLaws.{Stands, stands_first, stands_found, stands_exhausted, stands_missed, stands_on}
-use Rattle.transition.specs.Coded.{plan_of}
+use Rattle.transition.proofs.SearchLaws.{stands_first, stands_found, stands_exhausted, stands_missed, stands_on}
 use mathlib.Core.Bool.{not}
 use mathlib.Core.Path.{ap}
 use Rattle.transition.proofs.lengths.search.Goals as goal

@@ -1,11 +1,7 @@
 -- `most_urgent` meets its contract. The loop's invariant: of the ids below id the most urgent and its room are known, and how many have none. Assumes nothing.
-use borrow.Author.Rules.{rules}
-use mathlib.Core.Logic.{⊎_elim, inl, inr}
+use mathlib.Core.Logic.{inl, inr}
 use native.Mathlib.Omega.{arith}
-use Prim.Native.Nat.{◌-◌}
-use Rattle.slots.specs.Limits.{IDS}
-use Rattle.transition.proofs.StepLaws.{Scanned, row_ranged, scanned_few, scanned_none, scanned_unlisted, scanned_listed, scanned_nobody, scanned_missed, scanned_id}
-use Rattle.timetable.specs.Columns.{unplaced}
+use Rattle.transition.proofs.StepLaws.{row_ranged, scanned_few, scanned_none, scanned_unlisted, scanned_listed, scanned_nobody, scanned_missed, scanned_id}
 use Rattle.transition.proofs.step.most_urgent.Goals as goal
 use Rattle.transition.proofs.step.most_urgent.Goals.{then-period-gt0+then-room-eq0, then-period-gt0+else-room-eq0, else-period-gt0, then-room-least, else-room-least}
 

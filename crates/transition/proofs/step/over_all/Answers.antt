@@ -1,8 +1,5 @@
 -- `over_all` meets its contract. The loop's invariant: the shortfalls below id have risen by their weights, and the others are as they were. Assumes nothing.
-use borrow.Author.Rules.{rules}
-use Prim.Native.Nat.{◌-◌}
-use Rattle.slots.specs.Limits.{IDS}
-use Rattle.transition.proofs.StepLaws.{Risen, rising_fits, risen_fits, risen_none, risen_next, risen_paid}
+use Rattle.transition.proofs.StepLaws.{rising_fits, risen_fits, risen_none, risen_next, risen_paid}
 use Rattle.transition.proofs.step.over_all.Goals as goal
 
 pub weight_of-requires : goal.weight_of-requires
