@@ -12,11 +12,8 @@ use Rattle.slots.specs.Below.{every}
 use Rattle.slots.specs.Limits.{IDS}
 use Rattle.timetable.proofs.ScanLaws.{every_end, every_next}
 use Rattle.archive.proofs.answer.are_owners.Goals as goal
+use Rattle.archive.proofs.answer.are_owners.Invariants.{test}
 use Rattle.archive.proofs.answer.are_owners.Goals.{then-s-n-ge-IDS, else-s-n-ge-IDS}
-
--- Owner k is 0 to 31.
-abbrev test : List ℕ → ℕ → Bool
-test s k = ltb (content_at s 4 k) IDS
 
 -- One that is not makes the answer no, and one that is leaves it.
 and-false : (b : Bool) → false ≡ (b && false)

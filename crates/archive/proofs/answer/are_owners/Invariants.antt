@@ -10,7 +10,7 @@ use Rattle.slots.specs.Limits.{IDS}
 use Rattle.archive.proofs.answer.are_owners.Given as goal
 
 -- Owner k is 0 to 31.
-abbrev test : List ℕ → ℕ → Bool
+abbrev pub test : List ℕ → ℕ → Bool
 test s k = ltb (content_at s 4 k) IDS
 
 abbrev pub invariant-loop-n : goal.invariant-loop-n

@@ -12,11 +12,8 @@ use Rattle.timetable.proofs.ColumnLaws.{columns_at}
 use Rattle.timetable.specs.Columns.{from_columns}
 use Rattle.timetable.specs.declared.Entry.{Entry}
 use Rattle.records.proofs.write.put_offsets.Goals as goal
+use Rattle.records.proofs.write.put_offsets.Invariants.{shown}
 use Rattle.records.proofs.write.put_offsets.Goals.{then-period-gt0, else-period-gt0}
-
--- What is written: the offsets of the entries that the two columns show.
-abbrev shown : List ℕ → List ℕ → List Entry
-shown periods offsets = from_columns periods offsets [] []
 
 pub loop-id-init : goal.loop-id-init
 unfolding rising

@@ -10,7 +10,7 @@ use Rattle.timetable.specs.declared.Entry.{Entry}
 use Rattle.records.proofs.write.put_offsets.Given as goal
 
 -- What is written: the offsets of the entries that the two columns show.
-abbrev shown : List ℕ → List ℕ → List Entry
+abbrev pub shown : List ℕ → List ℕ → List Entry
 shown periods offsets = from_columns periods offsets [] []
 
 abbrev pub invariant-loop-id : goal.invariant-loop-id

@@ -1,21 +1,14 @@
 -- `are_same` meets its contract: the loop's invariant is that no bit differs so far exactly if each id below `id` has the same in both. Assumes nothing.
 use lib.Bits.{bit_xor}
-use lib.Dec.{eqb}
 use lib.ListN.{get_or}
-use mathlib.Core.Bool.{Bool}
-use mathlib.Core.List.{List}
 use mathlib.Core.Path.{refl}
 use native.Mathlib.Omega.{arith}
-use Prim.Native.Nat.{ℕ}
 use Rattle.slots.specs.Below.{every}
 use Rattle.slots.specs.Limits.{IDS}
 use Rattle.timetable.proofs.Bits.{none_differs, none_more}
 use Rattle.timetable.proofs.ScanLaws.{every_end, every_next}
 use Rattle.timetable.proofs.soundness.are_same.Goals as goal
-
--- What is asked of id i.
-abbrev arrived : List ℕ → List ℕ → ℕ → Bool
-arrived owed shortfalls i = eqb (get_or owed i 0) (get_or shortfalls i 0)
+use Rattle.timetable.proofs.soundness.are_same.Invariants.{arrived}
 
 pub loop-id-init : goal.loop-id-init
 unfolding every

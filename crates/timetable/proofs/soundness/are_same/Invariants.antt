@@ -10,7 +10,7 @@ use Rattle.slots.specs.Limits.{IDS}
 use Rattle.timetable.proofs.soundness.are_same.Given as goal
 
 -- What is asked of id i.
-abbrev arrived : List ℕ → List ℕ → ℕ → Bool
+abbrev pub arrived : List ℕ → List ℕ → ℕ → Bool
 arrived owed shortfalls i = eqb (get_or owed i 0) (get_or shortfalls i 0)
 
 abbrev pub invariant-loop-id : goal.invariant-loop-id
