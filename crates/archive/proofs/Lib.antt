@@ -2,7 +2,6 @@ pub mod AnswerSteps
 pub mod ScheduleLaws
 pub mod AnswerForms
 pub mod AnswerBack
-pub mod ReaderWalk
 pub mod WriterLaws
 pub mod EntryAsks
 pub mod RequestStores

@@ -1,15 +1,11 @@
 -- The invariant: it is answered whether each of the owners below n is 0 to 31. Assumes nothing.
 use borrow.Author.Tests.{le-ltb, lt-ltb}
-use lib.Dec.{ltb}
 use mathlib.Core.Bool.{Bool, true, false, ◌&&◌}
-use mathlib.Core.List.{List}
 use mathlib.Core.Path.{◌≡◌, refl, sym, ◌∙◌}
 use native.Mathlib.Omega.{arith}
-use Prim.Native.Nat.{ℕ}
 use Rattle.archive.specs.AnswerRead.{are_owners}
 use Rattle.records.specs.Request.{content_at}
 use Rattle.slots.specs.Below.{every}
-use Rattle.slots.specs.Limits.{IDS}
 use Rattle.timetable.proofs.ScanLaws.{every_end, every_next}
 use Rattle.archive.proofs.answer.are_owners.Goals as goal
 use Rattle.archive.proofs.answer.are_owners.Invariants.{test}

@@ -1,16 +1,13 @@
 -- The invariant: the offsets of the ids below `id` are stored from `from` on, and `at` is the place after them. Assumes nothing.
 use lib.ListN.{length}
-use mathlib.Core.List.{List, []}
+use mathlib.Core.List.{[]}
 use mathlib.Core.Path.{◌≡◌, refl, sym, ap, ◌∙◌}
 use native.Mathlib.Nat.{add-zero}
 use native.Mathlib.Omega.{arith}
-use Prim.Native.Nat.{ℕ}
 use Rattle.records.proofs.AreaLaws.{offsets_room, stored_listed, stored_same}
 use Rattle.records.specs.Answer.{rising}
 use Rattle.slots.specs.Limits.{IDS}
 use Rattle.timetable.proofs.ColumnLaws.{columns_at}
-use Rattle.timetable.specs.Columns.{from_columns}
-use Rattle.timetable.specs.declared.Entry.{Entry}
 use Rattle.records.proofs.write.put_offsets.Goals as goal
 use Rattle.records.proofs.write.put_offsets.Invariants.{shown}
 use Rattle.records.proofs.write.put_offsets.Goals.{then-period-gt0, else-period-gt0}
