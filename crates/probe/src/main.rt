@@ -8,7 +8,7 @@ ghost use Rattle.probe.specs.Probes.{Probes};
 use frames::{HEADER, stream};
 use parts::printing::print_byte;
 
-mod archive; // archive.rt: the kinds of probe that have no image
+mod archiving; // archiving.rt: the kinds of probe that have no image
 mod probing; // probing.rt: the kinds of probe, and those that have an image
 
 fn main(rt: HostRuntime) {

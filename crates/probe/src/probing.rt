@@ -1,7 +1,7 @@
-// The kinds of probe: each calls its entry point of the library and prints what came back. Those that have no image are in archive.rt.
+// The kinds of probe: each calls its entry point of the library and prints what came back. Those that have no image are in archiving.rt.
 ghost use Rattle.std.specs.Prelude.{length, ◌≤◌};
 
-use crate::archive;
+use crate::archiving;
 use parts::printing::{print_answer, print_area, print_image, print_number, print_text, print_two};
 use parts::reading::{after, byte_at, fill_area, length_at, number_at, unpack};
 
@@ -21,9 +21,9 @@ pub fn line(
 {
     let kind = byte_at(content, 0);
     match kind {
-        5 => archive::answer(rt, content, out, put, area),
-        6 => archive::request(rt, content, out, put, area),
-        7 => archive::field(rt, content, out, put),
+        5 => archiving::answer(rt, content, out, put, area),
+        6 => archiving::request(rt, content, out, put, area),
+        7 => archiving::field(rt, content, out, put),
         _ => on_image(rt, content, kind, out, put, image, area),
     }
 }
