@@ -249,7 +249,7 @@
  *
  * What the archive needs
  *
- * Link with libboard.a (rt staticlib board). The command beside each line shows it on target/staticlib/libboard.a, and examples/board fails where
+ * Link with libboard.a (tools/build archive). The command beside each line shows it on target/staticlib/libboard.a, and examples/board fails where
  * the archive needs other functions, has other data, or uses other instructions, SSE registers or stack than is said here.
  *
  *     ABI             x86-64, System V, 64-bit ELF (readelf -h); code and constants together run at any address, since calls and references are relative
@@ -261,8 +261,8 @@
  *                     not read
  *     SSE             xmm0 to xmm13, to move, clear, compare, add, subtract, shift, mask, pack and unpack whole numbers, in most functions or in what
  *                     they call; no floating point arithmetic, and no x87, MMX or AVX register (objdump -d). Your memcpy and memset may use more
- *     red zone        timetable::soundness::are_sound, board::image::starts_of keep figures in the 120 bytes below the stack pointer (objdump -d): a
- *                     change and both queries call them
+ *     red zone        timetable::soundness::are_sound, board::image::starts_of, tarnflaw_write_request keep figures in the 128 bytes below the stack pointer (objdump -d):
+ *                     a change and both queries call the first two
  *
  * So SSE has to be enabled. Every caller, as the ABI has it, calls with the stack pointer at a multiple of 16: the code moves 16 bytes at a time to
  * and from the stack, and faults otherwise. An interrupt handler that calls it besides saves the SSE registers first, like all that the ABI lets a
@@ -271,9 +271,9 @@
  *
  * What it takes
  *
- * Measured, not proved, and the worst that was found, not a bound. Stack, with that of memcpy and memset (bench/count): of a change 1,575 bytes, of an
- * owner query 791, of a standing query 807; that of the other functions was not measured. Times of this build on an x86-64 machine (docs/BENCHMARKS.md has
- * it, and the inputs): a change took 0.4 microseconds at the median of (a), and 19 at the worst; a query 0.4 at the worst, and reading an answer and
+ * Measured, not proved, and the worst that was found, not a bound. Stack, with that of memcpy and memset (bench/count): of a change 1,695 bytes, of an
+ * owner query 751, of a standing query 783; that of the other functions was not measured. Times of this code as an older toolchain built it, on an x86-64
+ * machine (docs/BENCHMARKS.md has it, and the inputs): a change took 0.4 microseconds at the median of (a), and 19 at the worst; a query 0.4 at the worst, and reading an answer and
  * writing a request 0.1. Earlier builds took longer. Up to version 4 the worst change took 95 to 103 microseconds on a quiet x86-64 machine, 142 where other
  * work disturbed it, and 201 on a slower one with an unsteady clock (docs/landings/ground.md); made for an Arm machine and timed there, 77 with versions 4
  * and 5 (docs/landings/CR-04.md), and 42 once slots were marked in bits (docs/landings/CR-06.md). Measure on your board. */
