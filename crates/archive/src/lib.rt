@@ -34,7 +34,7 @@ pub struct IdOffset {
 }
 
 // What an answer says: the transition's length and its owners, and each id's offset.
-#[derive(Drop)]
+#[derive(Clone, Copy)]
 pub struct Schedule {
     pub length: u8,
     pub owners: [u8; Timetable::LONGEST],
@@ -42,7 +42,7 @@ pub struct Schedule {
 }
 
 // An answer as it was read. Where it was refused its schedule is empty.
-#[derive(Drop)]
+#[derive(Clone, Copy)]
 pub struct ReadAnswer {
     pub reading: Reading,
     pub schedule: Schedule,

@@ -5,7 +5,7 @@ ghost use Rattle.archive.specs.AnswerRead.{field_at, told_owner, read_answer, re
 use super::{AnswerField, ReadAnswer, answer};
 
 // The record's bytes, and the place of the next field.
-#[derive(Drop)]
+#[derive(Clone, Copy)]
 pub struct AnswerReader<'a> {
     pub bytes: &'a [u8],
     pub at: usize,

@@ -16,7 +16,7 @@ pub mod queries; // queries.rt: the owner query and the standing query
 mod before; // before.rt: the stages before the search
 
 // What is decided of a request: a number of docs/RULES.md 7.1 and its place, the lengths searched, and the timetable in force from now on.
-#[derive(Drop)]
+#[derive(Clone, Copy)]
 pub struct Answer {
     pub number: u8,
     pub place: usize,
@@ -37,7 +37,7 @@ pub struct Decided {
 }
 
 // What a request gets: its answer, with the bytes written.
-#[derive(Drop)]
+#[derive(Clone, Copy)]
 pub struct Outcome {
     pub number: u8,
     pub place: usize,

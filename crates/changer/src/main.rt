@@ -12,7 +12,7 @@ use numbers::Refusal;
 use timetable::Timetable;
 
 // The timetable in force, the next request's ordinal, and where the last line ends in the output.
-#[derive(Drop)]
+#[derive(Clone, Copy)]
 struct Controller {
     timetable: Timetable,
     ordinal: u64,

@@ -2,7 +2,7 @@
 ghost use Rattle.std.specs.Prelude.{get_or, length, ◌≡◌, min, ◌+◌, ◌-◌, ◌*◌, ◌%◌, ◌^◌, ◌≤◌, ◌<◌};
 
 // Where packed bytes stand: the next of them, the zeros of a run that are still to come, and the byte that came last.
-#[derive(Drop)]
+#[derive(Clone, Copy)]
 struct Packed {
     at: usize,
     zeros: u8,

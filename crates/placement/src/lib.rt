@@ -10,7 +10,7 @@ pub mod ranks; // ranks.rt: the demands of the listed partitions, in order
 mod taken; // taken.rt: the slots that are taken
 
 // Whether every listed partition has a place, and the offsets of the places, by id: all zero where there is no placement.
-#[derive(Drop)]
+#[derive(Clone, Copy)]
 pub struct Placed {
     pub found: bool,
     pub offsets: [u8; Timetable::IDS],

@@ -8,7 +8,7 @@ use Rattle.timetable.specs.Timetable.{entry_of, is_listed}
 unfoldable pub field : ℕ → List ℕ → List ℕ
 field tag content = tag ∷ length content / 256 ∷ length content % 256 ∷ content
 
--- Helper of offset_fields and listingBytes: what is written for each id below n, ids rising.
+-- Helper of offset_fields and listing_bytes: what is written for each id below n, ids rising.
 unfoldable pub rising : (ℕ → List ℕ) → ℕ → List ℕ
 rising bytes zero = []
 rising bytes (suc n) = rising bytes n ++ bytes n

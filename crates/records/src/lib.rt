@@ -54,7 +54,7 @@ pub enum Reading {
 }
 
 // The listing of a request: what is asked for each id.
-#[derive(Drop)]
+#[derive(Clone, Copy)]
 pub struct Listing {
     pub reading: Reading,
     pub asks: [Ask; Timetable::IDS],

@@ -19,7 +19,7 @@ pub fn search(
 ) -> SearchEnd
     requires shortfalls_len { (length shortfalls.old ≡ IDS) × (length owners.old ≡ LONGEST) × (limit ≤ LONGEST) }
     requires ready { Ready (plan_of owners.old periods.now bounds.now shortfalls.old) }
-    ensures { search_from limit 0 (plan_of owners.entry.now periods.now bounds.now shortfalls.old) ≡ record { ending = result.ending; tries = result.tries; plan = record { owners = owners.exit.now; entries = from_columns periods.now result.offsets bounds.now shortfalls.new } } }
+    ensures { search_from limit 0 (plan_of owners.old periods.now bounds.now shortfalls.old) ≡ record { ending = result.ending; tries = result.tries; plan = record { owners = owners.new; entries = from_columns periods.now result.offsets bounds.now shortfalls.new } } }
 {
     let mut order = [0; Timetable::IDS];
     let count = ranks::list(periods, &mut order);

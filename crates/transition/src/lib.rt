@@ -18,7 +18,7 @@ pub enum Ending {
 }
 
 // The ending, the number of lengths searched, and the offsets placed, by id: all zero where the search did not end well.
-#[derive(Drop)]
+#[derive(Clone, Copy)]
 pub struct SearchEnd {
     pub ending: Ending,
     pub tries: u8,
