@@ -357,8 +357,8 @@ answers_read = record {
   range = λ s e. answer_range s e;
   back = λ x r. answer_back x r;
   changed = λ t s area e.
-      let written = record_of (answer t s (length area)) in
-      ap read_answer (sets_taken area written (length written) refl (held t s (length area)).fits) ∙ accepted_read t s (length area) e;
+      let bytes = record_of (answer t s (length area)) in
+      ap read_answer (sets_taken area bytes (length bytes) refl (held t s (length area)).fits) ∙ accepted_read t s (length area) e;
   field = λ s at. field_read s at;
   field_only = λ s at x d. field_is s d;
   owner = λ s e n. answer_owner s e n;
