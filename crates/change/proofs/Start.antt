@@ -23,7 +23,8 @@ use Rattle.slots.specs.Limits.{IDS, LONGEST, WHOLE, LARGEST_BOUND}
 use Rattle.timetable.proofs.Entries.{length_each, each_at}
 use Rattle.timetable.proofs.Ranges.{Period, InRange, period_pos}
 use Rattle.timetable.proofs.Since.{shortfall_below}
-use Rattle.timetable.proofs.Sound.{Absent, Ranged, Sound}
+use Rattle.timetable.proofs.Sound.{Ranged, Sound}
+use Rattle.timetable.proofs.Absent.{Absent}
 use Rattle.timetable.specs.declared.Entry.{Entry}
 use Rattle.timetable.specs.declared.Timetable.{Timetable}
 use Rattle.timetable.specs.Timetable.{absent_entry, no_entry, entry_of, is_listed, weight, shortfall_at}

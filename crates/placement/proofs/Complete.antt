@@ -23,7 +23,8 @@ use Rattle.slots.specs.Limits.{IDS}
 use Rattle.timetable.proofs.Cycle.{cyclic_residue}
 use Rattle.timetable.proofs.Meet.{entries_meet}
 use Rattle.timetable.proofs.Ranges.{InRange, period_dvd}
-use Rattle.timetable.proofs.Sound.{Absent, Apart, Ranged, cyclic_listed}
+use Rattle.timetable.proofs.Sound.{Apart, Ranged, cyclic_listed}
+use Rattle.timetable.proofs.Absent.{Absent}
 use Rattle.timetable.specs.declared.Entry.{Entry}
 use Rattle.timetable.specs.Timetable.{entry_of, is_listed, last_offset, with_offset, cyclic}
 

@@ -8,6 +8,7 @@ pub mod Complete
 pub mod RuleFourLaws
 pub mod Table
 pub mod Ranking
+pub mod Inserting
 pub mod Asked
 pub mod Sorting
 pub mod Placing

@@ -1,3 +1,4 @@
 pub mod Below
 pub mod Windows
 pub mod Shortfall
+pub mod OneSlot

@@ -7,6 +7,7 @@ use native.Mathlib.Decide.{ℕ_discrete}
 use native.Mathlib.Nat.{add-suc, add-zero}
 use native.Mathlib.Omega.{arith}
 use Prim.Native.Nat.{ℕ, zero, suc, ◌+◌, ◌*◌, ◌≤◌, ◌<◌}
+use Rattle.slots.proofs.OneSlot.{shortfall_suc}
 use Rattle.slots.specs.Limits.{WHOLE}
 use Rattle.slots.specs.Shortfall.{over_slot}
 use Rattle.slots.specs.Slots.{Run, own, one, entitlement, supply, shortfall, KeepsBound}
@@ -29,11 +30,6 @@ unfolding over_slot
 over_still s = omega arith
 
 module _ (run : Run) (i : ℕ) where
-  -- The shortfall one slot further.
-  pub shortfall_suc : (t : ℕ) → shortfall run i (suc t) ≡ over_slot (own run i t) ((run t).weight i) (shortfall run i t)
-  unfolding shortfall
-  shortfall_suc t = refl
-
   -- One slot more adds to a window what it adds to the shortfall, or more.
   pub window_over : (a n s : ℕ) → entitlement run i a n ≤ WHOLE * supply run i a n + s
       → entitlement run i a (suc n) ≤ WHOLE * supply run i a (suc n) + over_slot (own run i (a + n)) ((run (a + n)).weight i) s
@@ -44,7 +40,7 @@ module _ (run : Run) (i : ℕ) where
   pub window_le : (a n : ℕ) → entitlement run i a n ≤ WHOLE * supply run i a n + shortfall run i (a + n)
   unfolding entitlement supply
   window_le a zero = omega arith
-  window_le a (suc n) = rw (add-suc a n, shortfall_suc (a + n)) (window_over a n (shortfall run i (a + n)) (window_le a n))
+  window_le a (suc n) = rw (add-suc a n, shortfall_suc run i (a + n)) (window_over a n (shortfall run i (a + n)) (window_le a n))
 
   -- A window that ends at the start of slot t and is underserved by exactly s.
   pub record Attains (t s : ℕ) : Type 0 where
@@ -120,7 +116,7 @@ module _ (run : Run) (i : ℕ) where
         arith,
         worked_off a n,
         over_le (own run i (a + n)) ((run (a + n)).weight i) (shortfall run i (a + n)),
-        ap (shortfall run i) (add-suc a n) ∙ shortfall_suc (a + n),
+        ap (shortfall run i) (add-suc a n) ∙ shortfall_suc run i (a + n),
       )
 
   -- Over slots in which nothing is due and none is its own the shortfall stays as it is.
@@ -130,7 +126,7 @@ module _ (run : Run) (i : ℕ) where
   absence_keeps a (suc n) h =
       let x = h n (omega arith) in
       ap (shortfall run i) (add-suc a n)
-      ∙ shortfall_suc (a + n)
+      ∙ shortfall_suc run i (a + n)
       ∙ rw (x.0, x.1) (over_still (shortfall run i (a + n)))
       ∙ absence_keeps a n (λ m l. h m (omega arith))
 

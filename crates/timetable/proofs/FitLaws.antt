@@ -17,7 +17,8 @@ use Rattle.timetable.proofs.Filling.{Filled, filled_next, filled_nothing}
 use Rattle.timetable.proofs.Marks.{none_size}
 use Rattle.timetable.proofs.Ranges.{InRange, in_range_from, period_whole}
 use Rattle.timetable.proofs.ScanLaws.{every_same, passed, scan_ends, scan_goes, scan_stops}
-use Rattle.timetable.proofs.Sound.{absent_from, ranged_from}
+use Rattle.timetable.proofs.Sound.{ranged_from}
+use Rattle.timetable.proofs.Absent.{absent_from}
 use Rattle.timetable.proofs.SoundLaws.{entry_test, fits, formed, formed_absent, formed_listed, past_end, start_test}
 use Rattle.timetable.proofs.TakenLaws.{Says, free_apart, id_test, says_more, says_none}
 use Rattle.timetable.proofs.WalkLaws.{start_below, walk_small}

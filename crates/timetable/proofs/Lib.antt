@@ -2,7 +2,9 @@ pub mod Entries
 pub mod Ranges
 pub mod Cycle
 pub mod Meet
+pub mod Absent
 pub mod Sound
+pub mod ListedRange
 pub mod Owner
 pub mod Onward
 pub mod Since

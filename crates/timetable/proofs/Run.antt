@@ -9,7 +9,8 @@ use native.Mathlib.Nat.{add-zero, add-suc}
 use native.Mathlib.Omega.{arith}
 use Prim.Native.Nat.{ℕ, zero, suc, ◌+◌, ◌-◌, ◌*◌, ◌≤◌, ◌<◌}
 use Rattle.slots.proofs.Below.{true_false}
-use Rattle.slots.proofs.Windows.{absence_keeps, shortfall_agree, shortfall_suc}
+use Rattle.slots.proofs.Windows.{absence_keeps, shortfall_agree}
+use Rattle.slots.proofs.OneSlot.{shortfall_suc}
 use Rattle.slots.specs.Below.{count}
 use Rattle.slots.specs.Clocks.{core_slot}
 use Rattle.slots.specs.Limits.{IDS, WHOLE}

@@ -1,5 +1,5 @@
 -- Soundness, from its test to what it says and back, clause by clause. Assumes nothing.
-use borrow.Author.Tests.{lt-ltb, le-ltb, le-leb, eq-eqb, ltb-true, ltb-false, leb-true, eqb-true}
+use borrow.Author.Tests.{lt-ltb, le-ltb, le-leb, eq-eqb, ltb-true, leb-true, eqb-true}
 use lib.Dec.{eqb, ltb}
 use lib.ListN.{get_or}
 use mathlib.Core.Bool.{Bool, true, false, cond, not, ◌&&◌, ◌||◌}
@@ -11,18 +11,14 @@ use native.Mathlib.Nat.{mod-lt, mod-mod_of_dvd}
 use native.Mathlib.Omega.{arith}
 use Prim.Native.Nat.{ℕ, ◌+◌, ◌*◌, ◌%◌, ◌≤◌, ◌<◌, ◌∣◌}
 use Rattle.slots.proofs.Below.{and_both, every_at, every_all, true_false}
-use Rattle.slots.specs.Limits.{IDS, LONGEST, WHOLE, LARGEST_BOUND, LAST_SLOT}
+use Rattle.slots.specs.Limits.{IDS, LONGEST, WHOLE, LAST_SLOT}
 use Rattle.slots.specs.Shortfall.{keeps}
+use Rattle.timetable.proofs.Absent.{Absent, absent_from, absent_is}
 use Rattle.timetable.proofs.Ranges.{InRange, period_divides, in_range_from, in_range_is}
 use Rattle.timetable.specs.declared.Entry.{Entry}
 use Rattle.timetable.specs.declared.Timetable.{Timetable}
 use Rattle.timetable.specs.Sound.{request_in_range, length_in_range, base_as_stated, owners_listed, entry_in_range, entry_absent, entries_in_range, share_none, none_shared, unused_owners_zero, start_in_range, starts_in_range, walk_arrives, is_sound}
-use Rattle.timetable.specs.Timetable.{absent_entry, entry_of, start_of, is_listed, lists, weight, cyclic, transition_shortfall}
-
--- An entry that is all zero but for a shortfall below 2,048.
-pub record Absent (e : Entry) : Type 0 where
-  pub zero : e ≡ absent_entry e.shortfall
-  pub below : e.shortfall < WHOLE * LARGEST_BOUND
+use Rattle.timetable.specs.Timetable.{entry_of, start_of, is_listed, lists, weight, cyclic, transition_shortfall}
 
 -- Every listed id's entry is in range, and every other id's is as above.
 pub record Ranged (es : List Entry) : Type 0 where
@@ -48,27 +44,6 @@ pub record Sound (t : Timetable) : Type 0 where
       → transition_shortfall t.owners i (weight (entry_of t.entries i)) (start_of t i) t.length ≡ (entry_of t.entries i).shortfall
 
 -- ---- entries
-
--- An entry that is not listed, from its test to what it says and back.
-pub absent_from : (e : Entry) → is_listed e ≡ false → entry_absent e ≡ true → Absent e
-unfolding entry_absent keeps
-absent_from e l h =
-    let a = and_both (eqb e.offset 0 && eqb e.bound 0) (ltb e.shortfall (WHOLE * LARGEST_BOUND)) h in
-    let b = and_both (eqb e.offset 0) (eqb e.bound 0) a.0 in
-    let p : e.period ≡ 0 = omega (arith, ltb-false 0 e.period l) in
-    let o : e.offset ≡ 0 = eqb-true _ _ b.0 in
-    let r : e.bound ≡ 0 = eqb-true _ _ b.1 in
-    record {
-      zero = λ i. record { period = p i; offset = o i; bound = r i; shortfall = e.shortfall };
-      below = ltb-true _ _ a.1;
-    }
-
-absent_is : (e : Entry) → Absent e → entry_absent e ≡ true
-unfolding entry_absent keeps
-absent_is e a =
-    ap₂ ◌&&◌
-    (ap₂ ◌&&◌ (eq-eqb e.offset 0 (ap (λ (f : Entry). f.offset) a.zero)) (eq-eqb e.bound 0 (ap (λ (f : Entry). f.bound) a.zero)))
-    (lt-ltb e.shortfall (WHOLE * LARGEST_BOUND) a.below)
 
 pub ranged_from : (es : List Entry) → entries_in_range es ≡ true → Ranged es
 unfolding entries_in_range
@@ -220,8 +195,3 @@ sound_is t s =
     at n k (no l) =
         let h : t.length ≤ n = omega arith in
         rw (le-ltb n t.length h) (eq-eqb _ _ (s.unused n k h))
-
--- A listed entry of a sound timetable is in range.
-pub listed_in_range : (t : Timetable) → is_sound t ≡ true → (i : ℕ) → i < IDS → is_listed (entry_of t.entries i) ≡ true
-    → entry_in_range (entry_of t.entries i) ≡ true
-listed_in_range t s i k l = in_range_is (entry_of t.entries i) ((sound_from t s).ranged.listed i k l)

@@ -19,7 +19,7 @@ use Rattle.slots.specs.Limits.{IDS, LONGEST, WHOLE, LARGEST_BOUND}
 use Rattle.slots.specs.Shortfall.{keeps, over_slot, weight_of}
 use Rattle.timetable.proofs.EntryLaws.{weight_le}
 use Rattle.timetable.proofs.Ranges.{InRange}
-use Rattle.timetable.proofs.Sound.{Absent}
+use Rattle.timetable.proofs.Absent.{Absent}
 use Rattle.timetable.specs.declared.Entry.{Entry}
 use Rattle.timetable.specs.Sound.{start_in_range}
 use Rattle.timetable.specs.Timetable.{is_listed, transition_shortfall}

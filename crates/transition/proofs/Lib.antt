@@ -1,8 +1,10 @@
 pub mod UrgentRule
+pub mod ToldLaws
 pub mod Plans
 pub mod Search
 pub mod Reach
 pub mod Walk
+pub mod BestLaws
 pub mod StepLaws
 pub mod SearchLaws
 pub mod RuleThreeLaws

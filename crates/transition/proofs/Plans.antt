@@ -18,10 +18,12 @@ use Rattle.slots.specs.Limits.{IDS, LONGEST, WHOLE}
 use Rattle.slots.specs.Shortfall.{over_slot, weight_of}
 use Rattle.timetable.proofs.Entries.{length_each, each_at}
 use Rattle.timetable.proofs.Ranges.{InRange}
-use Rattle.timetable.proofs.Sound.{Absent, Ranged}
+use Rattle.timetable.proofs.Sound.{Ranged}
+use Rattle.timetable.proofs.Absent.{Absent}
 use Rattle.timetable.specs.declared.Entry.{Entry}
 use Rattle.timetable.specs.Timetable.{absent_entry, no_entry, entry_of, is_listed, weight}
-use Rattle.transition.proofs.UrgentRule.{Told, told, unmissed, room_bears, own_bears}
+use Rattle.transition.proofs.UrgentRule.{Told, unmissed, room_bears, own_bears}
+use Rattle.transition.proofs.ToldLaws.{told}
 use Rattle.transition.specs.Plan.{Plan}
 use Rattle.transition.specs.RuleThree.{GoesTo, MostUrgent}
 use Rattle.transition.specs.Transition.{most_urgent, is_missed, over_entry, over_all, longer}

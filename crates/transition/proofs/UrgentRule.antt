@@ -9,7 +9,7 @@ use mathlib.Core.Path.{◌≡◌, refl, sym, ◌∙◌}
 use native.Mathlib.Decide.{ℕ_discrete}
 use native.Mathlib.Nat.{le-div_iff_mul-le, div-lt_iff_lt-mul}
 use native.Mathlib.Omega.{arith}
-use Prim.Native.Nat.{ℕ, zero, suc, ◌+◌, ◌-◌, ◌*◌, ◌/◌, ◌≤◌, ◌<◌}
+use Prim.Native.Nat.{ℕ, suc, ◌+◌, ◌-◌, ◌*◌, ◌/◌, ◌≤◌, ◌<◌}
 use Rattle.placement.specs.Any.{Lists}
 use Rattle.slots.proofs.Below.{every_at, every_fails, true_false}
 use Rattle.slots.specs.Limits.{IDS, WHOLE}
@@ -23,7 +23,7 @@ use Rattle.timetable.specs.declared.Entry.{Entry}
 use Rattle.timetable.specs.Timetable.{entry_of, is_listed, weight, room}
 use Rattle.transition.specs.Reach.{AnyoneBreaks}
 use Rattle.transition.specs.RuleThree.{MostUrgent}
-use Rattle.transition.specs.Transition.{more_urgent, most_urgent, is_missed}
+use Rattle.transition.specs.Transition.{more_urgent, is_missed}
 
 -- ---- the most urgent
 
@@ -33,7 +33,7 @@ Told es n none = (i : ℕ) → i < n → is_listed (entry_of es i) ≡ false
 Told es n (some u) = MostUrgent es n u
 
 module _ (es : List Entry) where
-  told_none : (n : ℕ) → is_listed (entry_of es n) ≡ true → Told es n none → Told es (suc n) (some n)
+  pub told_none : (n : ℕ) → is_listed (entry_of es n) ≡ true → Told es n none → Told es (suc n) (some n)
   told_none n l h = record {
     below = omega arith;
     listed = l;
@@ -47,7 +47,7 @@ module _ (es : List Entry) where
       at i m (no e) f = absurd (true_false m (f e))
 
   -- The most urgent id stays the most urgent beside one with no less room.
-  told_kept : (n u : ℕ) → (is_listed (entry_of es n) ≡ true → room (entry_of es u) ≤ room (entry_of es n)) → Told es n (some u) → Told es (suc n) (some u)
+  pub told_kept : (n u : ℕ) → (is_listed (entry_of es n) ≡ true → room (entry_of es u) ≤ room (entry_of es n)) → Told es n (some u) → Told es (suc n) (some u)
   told_kept n u l h = record {
     below = omega (arith, h.below);
     listed = h.listed;
@@ -60,7 +60,7 @@ module _ (es : List Entry) where
       at i m (yes z) f = rw z (l (rw z at m))
       at i m (no z) f = f z
 
-  told_some : (n u : ℕ) → is_listed (entry_of es n) ≡ true → Told es n (some u) → Told es (suc n) (more_urgent es n (some u))
+  pub told_some : (n u : ℕ) → is_listed (entry_of es n) ≡ true → Told es n (some u) → Told es (suc n) (more_urgent es n (some u))
   unfolding more_urgent
   told_some n u l h = at (ltb (room (entry_of es n)) (room (entry_of es u))) refl
     where
@@ -77,23 +77,6 @@ module _ (es : List Entry) where
           less i m (yes z) f = rw z (omega arith)
           less i m (no z) f = omega (arith, ltb-true (room (entry_of es n)) (room (entry_of es u)) e, f z)
       at false e = told_kept n u (λ _. ltb-false (room (entry_of es n)) (room (entry_of es u)) e) h
-
-  -- The most urgent id below n, or that none below n is listed.
-  pub told : (n : ℕ) → Told es n (most_urgent es n)
-  unfolding most_urgent more_urgent
-  told zero = λ i k. absurd (omega arith)
-  told (suc n) = at (is_listed (entry_of es n)) refl (most_urgent es n) (told n)
-    where
-      at : (b : Bool) → is_listed (entry_of es n) ≡ b → (u : Option ℕ) → Told es n u
-          → Told es (suc n) (elim b [ true ↦ more_urgent es n u | false ↦ u ])
-      at true e none h = told_none n e h
-      at true e (some u) h = told_some n u e h
-      at false e none h = λ i k. not_here i (ℕ_discrete i n) (λ q. h i (omega arith))
-        where
-          not_here : (i : ℕ) → Dec (i ≡ n) → (i ≢ n → is_listed (entry_of es i) ≡ false) → is_listed (entry_of es i) ≡ false
-          not_here i (yes z) f = rw z e
-          not_here i (no z) f = f z
-      at false e (some u) h = told_kept n u (λ l. absurd (true_false l e)) h
 
 -- ---- room, in terms of the bound
 

@@ -9,7 +9,8 @@ use Rattle.timetable.proofs.ColumnLaws.{columns_at}
 use Rattle.timetable.proofs.OwnerLaws.{place_fits}
 use Rattle.timetable.proofs.Ranges.{in_range_from, period_is}
 use Rattle.timetable.proofs.Since.{shortfall_cycle, shortfall_transition, slices_cycle, slices_most, slices_transition, start_small}
-use Rattle.timetable.proofs.Sound.{Sound, listed_in_range, sound_from}
+use Rattle.timetable.proofs.Sound.{Sound, sound_from}
+use Rattle.timetable.proofs.ListedRange.{listed_in_range}
 use Rattle.timetable.specs.Columns.{of_columns}
 use Rattle.timetable.specs.declared.Entry.{Entry}
 use Rattle.timetable.specs.declared.Timetable.{Timetable}
