@@ -1,13 +1,14 @@
 -- The test of the entries and their starts in one pass over the ids, and what it leaves for the pass over the transition's owners. Assumes nothing.
 use borrow.Author.Tests.{le-ltb, lt-ltb, ltb-false, ltb-true, not-false}
 use lib.Dec.{eqb, ltb}
-use lib.ListN.{get_or, length, set}
+use lib.ListN.{get_or, length, set, take}
 use mathlib.Core.Bool.{Bool, true, false, not, ◌&&◌}
 use mathlib.Core.List.{List}
 use mathlib.Core.Path.{◌≡◌, refl, sym, ap, ap₂, ◌∙◌}
 use native.Mathlib.Decide.{dec_lt}
 use native.Mathlib.Omega.{arith}
 use Prim.Native.Nat.{ℕ, ◌+◌, ◌-◌, ◌*◌, ◌≤◌, ◌<◌}
+use Rattle.std.proofs.lemmas.List.{get_or-take, length-take-le}
 use Rattle.slots.proofs.Below.{and_both, every_at, true_false}
 use Rattle.slots.specs.Below.{every}
 use Rattle.slots.specs.Limits.{IDS, LONGEST}
@@ -21,7 +22,7 @@ use Rattle.timetable.proofs.Sound.{ranged_from}
 use Rattle.timetable.proofs.Absent.{absent_from}
 use Rattle.timetable.proofs.SoundLaws.{entry_test, fits, formed, formed_absent, formed_listed, past_end, start_test}
 use Rattle.timetable.proofs.TakenLaws.{Says, free_apart, id_test, says_more, says_none}
-use Rattle.timetable.proofs.WalkLaws.{start_below, walk_small}
+use Rattle.timetable.proofs.WalkLaws.{start_below, walk_small, walk_taken}
 use Rattle.timetable.specs.declared.Entry.{Entry}
 use Rattle.timetable.specs.declared.Timetable.{Timetable}
 use Rattle.timetable.specs.Marks.{Marks, OfCycle, no_marks}
@@ -134,6 +135,10 @@ module _ (es : List Entry) (starts : List ℕ) (size : ℕ) where
         added = λ _. record { count = f.added.count; each = λ i k. f.added.below i (omega arith) };
       }
 
+-- What are_shortfalls asks of id i.
+abbrev pub arrived : List ℕ → List Entry → ℕ → Bool
+arrived owed es i = eqb (get_or owed i 0) (entry_of es i).shortfall
+
 -- ---- what all of them leave
 
 -- An entry has a weight exactly if it is listed.
@@ -168,29 +173,41 @@ module _ (t : Timetable) (r : Bool) (weights owed : List ℕ) (f : Fit t.entries
   unfolding entries_in_range
   small i k l = unserved_small (entry_of es i) (get_or t.starts i 0) t.length (weight (entry_of es i)) (every_at _ IDS in_range i k) (every_at _ IDS (and_both (entries_in_range es && none_shared es) _ all_fit).1 i k) l refl
 
-  -- The pass over the owners can start,
-  pub walkable : t.length ≤ LONGEST → every t.length (weighs t.owners weights) ≡ true → Walkable t.owners t.length weights owed
-  walkable l o =
-      let w = f.weighed (not-false r h) in
-      let a = f.added (not-false r h) in
-      record {
-        short = l;
-        ids = λ n k. ltb-true _ _ (and_both (ltb (get_or t.owners n 0) IDS) _ (every_at _ t.length o n k)).0;
-        count = a.count;
-        enough = λ i k. omega (arith, a.each i k, ap (λ (x : ℕ). x * t.length) (w.each i k));
-        small = λ i k. omega (arith, a.each i k, small i k l);
-      }
+  -- The transition's owners, and what they tell of all 64.
+  module _ (transition : List ℕ) (z : transition ≡ take t.length t.owners) (n : length t.owners ≡ LONGEST) (l : t.length ≤ LONGEST) where
+    pub transition_length : length transition ≡ t.length
+    transition_length = ap length z ∙ length-take-le t.length t.owners (omega arith)
 
-  -- and it ends with the walk's shortfalls.
-  pub walk_tells : (after shortfalls : List ℕ) → Walked t.owners t.length weights owed after → ((i : ℕ) → i < IDS → (entry_of es i).shortfall ≡ get_or shortfalls i 0)
-      → every IDS (λ i. eqb (get_or after i 0) (get_or shortfalls i 0)) ≡ walk_arrives t
-  unfolding walk_arrives
-  walk_tells after shortfalls a s = every_same _ _ IDS (λ i k. ap₂ eqb (a i k ∙ at i k) (sym (s i k)))
-    where
-      at : (i : ℕ) → i < IDS → transition_shortfall t.owners i (get_or weights i 0) (get_or owed i 0 - get_or weights i 0 * t.length) t.length
-          ≡ transition_shortfall t.owners i (weight (entry_of es i)) (get_or t.starts i 0) t.length
-      at i k =
-          let w = (f.weighed (not-false r h)).each i k in
-          let z : get_or owed i 0 - get_or weights i 0 * t.length ≡ get_or t.starts i 0 =
-          omega (arith, (f.added (not-false r h)).each i k, ap (λ (x : ℕ). x * t.length) w) in
-          ap₂ (λ (x y : ℕ). transition_shortfall t.owners i x y t.length) w z
+    pub transition_owners : length es ≡ IDS → every (length transition) (weighs transition weights) ≡ owners_listed t
+    transition_owners c =
+        ap (λ (m : ℕ). every m (weighs transition weights)) transition_length
+        ∙ every_same _ _ t.length
+        (λ m k. ap (λ (o : ℕ). ltb o IDS && ltb 0 (get_or weights o 0)) (ap (λ (x : List ℕ). get_or x m 0) z ∙ get_or-take t.length t.owners m 0 k))
+        ∙ owners_tell c
+
+    -- The pass over the owners can start,
+    pub walkable : every (length transition) (weighs transition weights) ≡ true → Walkable transition weights owed
+    walkable o =
+        let w = f.weighed (not-false r h) in
+        let a = f.added (not-false r h) in
+        record {
+          short = omega (arith, transition_length);
+          ids = λ m k. ltb-true _ _ (and_both (ltb (get_or transition m 0) IDS) _ (every_at _ (length transition) o m k)).0;
+          enough = λ i k. omega (arith, a.each i k, ap₂ ◌*◌ (w.each i k) transition_length);
+          small = λ i k. omega (arith, a.each i k, small i k l);
+        }
+
+    -- and it ends with the walk's shortfalls.
+    pub walk_tells : (after : List ℕ) → Walked transition weights owed after → every IDS (arrived after es) ≡ walk_arrives t
+    unfolding walk_arrives
+    walk_tells after a = every_same _ _ IDS (λ i k. ap (λ (x : ℕ). eqb x (entry_of es i).shortfall) (a i k ∙ at i k))
+      where
+        at : (i : ℕ) → i < IDS → transition_shortfall transition i (get_or weights i 0) (get_or owed i 0 - get_or weights i 0 * length transition) (length transition)
+            ≡ transition_shortfall t.owners i (weight (entry_of es i)) (get_or t.starts i 0) t.length
+        at i k =
+            let w = (f.weighed (not-false r h)).each i k in
+            let y : get_or owed i 0 - get_or weights i 0 * length transition ≡ get_or t.starts i 0 =
+            omega (arith, (f.added (not-false r h)).each i k, ap₂ ◌*◌ w transition_length) in
+            ap₂ (λ (u v : ℕ). transition_shortfall transition i u v (length transition)) w y
+            ∙ ap₂ (λ (o : List ℕ) (m : ℕ). transition_shortfall o i (weight (entry_of es i)) (get_or t.starts i 0) m) z transition_length
+            ∙ walk_taken t.owners i (weight (entry_of es i)) (get_or t.starts i 0) t.length t.length (omega arith)

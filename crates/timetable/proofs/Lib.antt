@@ -19,6 +19,5 @@ pub mod TakenLaws
 pub mod OwnerLaws
 pub mod Filling
 pub mod FitLaws
-pub mod ColumnLaws
 pub mod WalkLaws
 pub mod Shares

@@ -1,14 +1,17 @@
 -- The clauses of soundness, as they are tested. Assumes nothing.
 use borrow.Author.Tests.{lt-ltb, le-ltb, le-leb, lt-leb, eq-eqb, ne_eqb, leb-true}
 use lib.Dec.{eqb, leb, ltb}
-use lib.ListN.{get_or, length}
+use lib.ListN.{get_or, length, drop, length-drop}
 use mathlib.Core.Bool.{Bool, true, false, cond, ◌&&◌, ◌||◌}
 use mathlib.Core.List.{List, [], ◌∷◌}
 use mathlib.Core.Logic.{◌⊎◌, inl, inr}
-use mathlib.Core.Path.{◌≡◌, refl, sym, ap, ◌∙◌}
+use mathlib.Core.Path.{◌≡◌, refl, sym, ap, ap₂, ◌∙◌}
 use native.Mathlib.Decide.{ℕ_discrete}
+use native.Mathlib.Numerals.{unary_clauses}
 use native.Mathlib.Omega.{arith}
-use Prim.Native.Nat.{ℕ, zero, suc, ◌+◌, ◌*◌, ◌≤◌, ◌<◌}
+use Prim.Native.Nat.{ℕ, zero, suc, ◌+◌, ◌-◌, ◌*◌, ◌≤◌, ◌<◌}
+use Rattle.std.proofs.lemmas.List.{get_or-drop}
+use Rattle.timetable.proofs.ScanLaws.{every_same}
 use Rattle.slots.proofs.Below.{and_both, every_at, every_all}
 use Rattle.slots.specs.Below.{every}
 use Rattle.slots.specs.Limits.{IDS, LONGEST, WHOLE, LARGEST_BOUND, LAST_SLOT}
@@ -183,6 +186,22 @@ module _ (owners : List ℕ) (size : ℕ) where
 
   pub unused_test_lem : (n : ℕ) → size ≤ n → unused_test n ≡ eqb (get_or owners n 0) 0
   unused_test_lem n h = ap (λ (b : Bool). b || eqb (get_or owners n 0) 0) (le-ltb n size h)
+
+  -- Those past the transition are asked on their own.
+  unused_after : (m : ℕ) → every (size + m) unused_test ≡ every m (λ n. eqb (get_or owners (size + n) 0) 0)
+  unfolding every
+  unused_after zero = simp unary_clauses unused_start
+  unused_after (suc m) = simp unary_clauses (ap₂ ◌&&◌ (unused_after m) (unused_test_lem (size + m) (omega arith)))
+
+  pub unused_tell : (rest : List ℕ) → rest ≡ drop size owners → length owners ≡ LONGEST → size ≤ LONGEST
+      → every (length rest) (λ n. eqb (get_or rest n 0) 0) ≡ every LONGEST unused_test
+  unused_tell rest e h l =
+      let z : size + (LONGEST - size) ≡ LONGEST = omega arith in
+      ap (λ (r : List ℕ). every (length r) (λ n. eqb (get_or r n 0) 0)) e
+      ∙ ap (λ (m : ℕ). every m (λ n. eqb (get_or (drop size owners) n 0) 0)) (length-drop size owners ∙ ap (λ (m : ℕ). m - size) h)
+      ∙ every_same _ _ (LONGEST - size) (λ n _. ap (λ (x : ℕ). eqb x 0) (get_or-drop size owners n 0))
+      ∙ sym (unused_after (LONGEST - size))
+      ∙ ap (λ (m : ℕ). every m unused_test) z
 
 -- ---- the whole timetable, clause by clause
 

@@ -16,11 +16,11 @@ use Rattle.slots.specs.Below.{every}
 use Rattle.slots.specs.Limits.{WHOLE}
 use Rattle.timetable.proofs.EntryLaws.{cyclic_none, cyclic_test}
 use Rattle.timetable.proofs.Bits.{set_one, set_or, set_shift}
-use Rattle.timetable.proofs.Marks.{Marked, marked_more, marked_none, none_before, none_between, none_marked, shares_none, shares_some, slots_here, stride}
+use Rattle.timetable.proofs.Marks.{Marked, marked_more, marked_none, none_before, none_between, none_marked, shares_none, shares_some, slots_here}
 use Rattle.timetable.proofs.Ranges.{Period}
 use Rattle.timetable.proofs.Sound.{cyclic_listed}
 use Rattle.timetable.specs.declared.Entry.{Entry}
-use Rattle.timetable.specs.Marks.{WORD, WORDS, Marks, OfCycle, is_marked, is_set, no_marks, with_bits, AreSlots}
+use Rattle.timetable.specs.Marks.{stride, WORD, WORDS, Marks, OfCycle, is_marked, is_set, no_marks, with_bits, AreSlots}
 use Rattle.timetable.specs.Sound.{share_none}
 use Rattle.timetable.specs.Taken.{Takes, are_free}
 use Rattle.timetable.specs.Timetable.{cyclic, entry_of, is_listed}

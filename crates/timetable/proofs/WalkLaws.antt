@@ -1,18 +1,22 @@
 -- The pass of the soundness test over the transition's owners: what each id would be owed at the base without the slots left, slot by slot. Assumes nothing.
 use borrow.Author.Tests.{eq-eqb, eqb-true, ltb-true, ne_eqb}
 use lib.Dec.{eqb}
-use lib.ListN.{get_or, length-set, set}
+use lib.ListN.{get_or, length, length-set, set, take}
 use lib.Seq.{get_or-set_same, get_or-set_other}
-use mathlib.Core.Bool.{Bool, true, false}
+use mathlib.Core.Bool.{Bool, true, false, cond}
 use mathlib.Core.List.{List}
 use mathlib.Core.Logic.{◌≢◌}
-use mathlib.Core.Path.{◌≡◌, refl, sym, ap, ◌∙◌}
+use mathlib.Core.Path.{◌≡◌, refl, sym, ap, ap₂, ◌∙◌}
 use native.Mathlib.Decide.{ℕ_discrete}
 use native.Mathlib.Nat.{mul-add, mul-le-mul, mul-le-mul_left, mul-suc, mul-zero, sub-zero}
 use native.Mathlib.Numerals.{add-one}
 use native.Mathlib.Omega.{arith}
 use Prim.Native.Nat.{ℕ, zero, suc, ◌+◌, ◌-◌, ◌*◌, ◌≤◌, ◌<◌}
-use Rattle.slots.proofs.Below.{count_most}
+use Rattle.std.proofs.lemmas.List.{get_or-take, length-take-le}
+use Rattle.std.proofs.lemmas.List.Sums.{count_by_more_no, count_by_more_yes}
+use Rattle.std.proofs.Math.Seq.{take-length}
+use Rattle.std.specs.List.{count_by}
+use Rattle.slots.proofs.Below.{count_most, true_false}
 use Rattle.slots.proofs.Windows.{over_still}
 use Rattle.slots.specs.Below.{count}
 use Rattle.slots.specs.Limits.{IDS, LONGEST, WHOLE, LARGEST_BOUND}
@@ -129,7 +133,10 @@ module _ (owners : List ℕ) (size i w start : ℕ) where
     owed_other o = rw (ne_eqb i (get_or owners n 0) o) (omega (arith, rest_next, same_rest))
 
 -- The pass over the owners, from what each id would be owed before it.
-module _ (owners : List ℕ) (size : ℕ) (weights before : List ℕ) where
+module _ (owners weights before : List ℕ) where
+  abbrev size : ℕ
+  size = length owners
+
   abbrev w : ℕ → ℕ
   w i = get_or weights i 0
 
@@ -141,8 +148,8 @@ module _ (owners : List ℕ) (size : ℕ) (weights before : List ℕ) where
   Owed n owed = Holds (λ i. owed_at owners size i (w i) (start i) n) owed
 
   -- Before the first slot
-  pub owed_before : Walkable owners size weights before → Owed 0 before
-  owed_before a = record { count = a.count; each = λ i k. omega (arith, a.enough i k, owed_start owners size i (w i) (start i)) }
+  pub owed_before : length before ≡ IDS → Walkable owners weights before → Owed 0 before
+  owed_before c a = record { count = c; each = λ i k. omega (arith, a.enough i k, owed_start owners size i (w i) (start i)) }
 
   module _ (n : ℕ) (l : n < size) (owed : List ℕ) (h : Owed n owed) where
     abbrev o : ℕ
@@ -152,7 +159,7 @@ module _ (owners : List ℕ) (size : ℕ) (weights before : List ℕ) where
     pub rest_there : o < IDS → w o * (size - n - 1) ≤ get_or owed o 0
     rest_there ok = omega (arith, h.each o ok, rest_le owners size o (w o) (start o) n l)
 
-    pub owed_small : Walkable owners size weights before → o < IDS → get_or owed o 0 < 65536
+    pub owed_small : Walkable owners weights before → o < IDS → get_or owed o 0 < 65536
     owed_small a ok = omega (arith, h.each o ok, owed_most owners size o (w o) (start o) n (omega arith), a.enough o ok, a.small o ok)
 
     -- One slot more.
@@ -173,27 +180,60 @@ module _ (owners : List ℕ) (size : ℕ) (weights before : List ℕ) where
         at i k (no z) = get_or-set_other owed o i x 0 z ∙ h.each i k ∙ sym (owed_other owners size i (w i) (start i) n l z)
 
   -- After the last one.
-  pub owed_after : (n : ℕ) (owed : List ℕ) → size ≤ n → n ≤ size → Owed n owed → Walked owners size weights before owed
+  pub owed_after : (n : ℕ) (owed : List ℕ) → size ≤ n → n ≤ size → Owed n owed → Walked owners weights before owed
   owed_after n owed a b h i k = h.each i k ∙ owed_end owners size i (w i) (start i) n a b
+
+-- ---- the transition as the first of the 64 owners
+
+-- The first m owners tell the walk of as many slots,
+pub walk_taken : (owners : List ℕ) (i w start m n : ℕ) → n ≤ m → transition_shortfall (take m owners) i w start n ≡ transition_shortfall owners i w start n
+unfolding transition_shortfall
+walk_taken owners i w start m zero h = refl
+walk_taken owners i w start m (suc n) h =
+    ap₂ (λ (o s : ℕ). over_slot (eqb i o) w s) (get_or-take m owners n 0 (omega arith)) (walk_taken owners i w start m n (omega arith))
+
+-- and how many of them are an id's own.
+pub slices_taken : (owners : List ℕ) (i m n : ℕ) → n ≤ m
+    → count n (λ k. eqb i (get_or (take m owners) k 0)) ≡ count n (λ k. eqb i (get_or owners k 0))
+unfolding count
+slices_taken owners i m zero h = refl
+slices_taken owners i m (suc n) h =
+    ap₂ (λ (c o : ℕ). c + cond (eqb i o) 1 0) (slices_taken owners i m n (omega arith)) (get_or-take m owners n 0 (omega arith))
+
+-- So where as many owners stand in a list of their own.
+module _ (owners : List ℕ) (i n : ℕ) (l : n ≤ length owners) where
+  first_length : length (take n owners) ≡ n
+  first_length = length-take-le n owners l
+
+  pub first_small : (w start : ℕ) → start + w * n < 65536 → start + w * length (take n owners) < 65536
+  first_small w start h = omega (arith, h, ap (λ (m : ℕ). w * m) first_length)
+
+  pub walk_first : (w start : ℕ) → transition_shortfall (take n owners) i w start (length (take n owners)) ≡ transition_shortfall owners i w start n
+  walk_first w start = ap (transition_shortfall (take n owners) i w start) first_length ∙ walk_taken owners i w start n n (omega arith)
+
+  pub slices_first : count (length (take n owners)) (λ k. eqb i (get_or (take n owners) k 0)) ≡ count n (λ k. eqb i (get_or owners k 0))
+  slices_first = ap (λ (m : ℕ). count m (λ k. eqb i (get_or (take n owners) k 0))) first_length ∙ slices_taken owners i n n (omega arith)
 
 -- ---- slices in the transition
 
-module _ (owners : List ℕ) (i : ℕ) where
-  -- Whether a transition slot is i's own.
-  abbrev pub owns : ℕ → Bool
-  owns n = eqb i (get_or owners n 0)
+-- How many of the first n owners are an id's own, counted one by one or as a list.
+slices_below : (owners : List ℕ) (i n : ℕ) → n ≤ length owners → count_by (λ (o : ℕ). eqb o i) (take n owners) ≡ count n (λ k. eqb i (get_or owners k 0))
+unfolding count
+slices_below owners i zero h = refl
+slices_below owners i (suc n) h = rw (← add-one n) (at (slices_below owners i n (omega arith)) (eqb (get_or owners n 0) i) refl)
+  where
+    mine : ℕ → Bool
+    mine k = eqb k i
 
-  pub slices_own : (n s : ℕ) → i ≡ get_or owners n 0 → s ≡ count n owns → s + 1 ≡ count (n + 1) owns
-  unfolding count
-  slices_own n s h e = rw (add-one n) (rw (eq-eqb i (get_or owners n 0) h) (omega (arith, e)))
+    at : count_by mine (take n owners) ≡ count n (λ k. eqb i (get_or owners k 0)) → (b : Bool) → eqb (get_or owners n 0) i ≡ b
+        → count_by mine (take (n + 1) owners) ≡ count n (λ k. eqb i (get_or owners k 0)) + cond (eqb i (get_or owners n 0)) 1 0
+    at below true e =
+        count_by_more_yes mine owners n 0 (omega arith) e
+        ∙ ap₂ (λ (c : ℕ) (b : Bool). c + cond b 1 0) below (sym (eq-eqb i (get_or owners n 0) (sym (eqb-true (get_or owners n 0) i e))))
+    at below false e =
+        count_by_more_no mine owners n 0 (omega arith) e
+        ∙ below
+        ∙ omega (arith, ap {B = ℕ} (λ (b : Bool). cond b 1 0) (ne_eqb i (get_or owners n 0) (λ z. true_false (eq-eqb (get_or owners n 0) i (sym z)) e)))
 
-  pub slices_other : (n s : ℕ) → i ≢ get_or owners n 0 → s ≡ count n owns → s ≡ count (n + 1) owns
-  unfolding count
-  slices_other n s h e = rw (add-one n) (rw (ne_eqb i (get_or owners n 0) h) (omega (arith, e)))
-
-  pub slices_all : (n m s : ℕ) → m ≤ n → n ≤ m → s ≡ count n owns → s ≡ count m owns
-  slices_all n m s a b e = let k : n ≡ m = omega arith in rw k at e
-
-  -- They are few.
-  pub slices_few : (n s : ℕ) → s ≡ count n owns → s ≤ n
-  slices_few n s e = omega (arith, e, count_most owns n)
+pub slices_all : (owners : List ℕ) (i : ℕ) → count_by (λ (o : ℕ). eqb o i) owners ≡ count (length owners) (λ k. eqb i (get_or owners k 0))
+slices_all owners i = ap (count_by (λ (o : ℕ). eqb o i)) (sym (take-length owners)) ∙ slices_below owners i (length owners) (omega arith)

@@ -5,4 +5,3 @@ pub mod Owner
 pub mod Marks
 pub mod Taken
 pub mod Walk
-pub mod Columns

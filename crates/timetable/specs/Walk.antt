@@ -30,14 +30,14 @@ unfoldable pub owed_at : List ℕ → ℕ → ℕ → ℕ → ℕ → ℕ → �
 owed_at owners size i weight start n = transition_shortfall owners i weight start n + weight * (size - n)
 
 -- What the pass over the owners may take as checked: each is an id, and each id would be owed its weight for each slot at least, and what fits 16 bits.
-pub record Walkable (owners : List ℕ) (size : ℕ) (weights owed : List ℕ) : Type 0 where
-  pub short : size ≤ LONGEST
-  pub ids : (n : ℕ) → n < size → get_or owners n 0 < IDS
-  pub count : length owed ≡ IDS
-  pub enough : (i : ℕ) → i < IDS → get_or weights i 0 * size ≤ get_or owed i 0
+pub record Walkable (owners weights owed : List ℕ) : Type 0 where
+  pub short : length owners ≤ LONGEST
+  pub ids : (n : ℕ) → n < length owners → get_or owners n 0 < IDS
+  pub enough : (i : ℕ) → i < IDS → get_or weights i 0 * length owners ≤ get_or owed i 0
   pub small : (i : ℕ) → i < IDS → get_or owed i 0 < 65536
 
 -- After it the list holds each id's shortfall at the base, walked from its start: what it would be owed before, without the weight for each slot.
-abbrev pub Walked : List ℕ → ℕ → List ℕ → List ℕ → List ℕ → Type 0
-Walked owners size weights before after =
-    (i : ℕ) → i < IDS → get_or after i 0 ≡ transition_shortfall owners i (get_or weights i 0) (get_or before i 0 - get_or weights i 0 * size) size
+abbrev pub Walked : List ℕ → List ℕ → List ℕ → List ℕ → Type 0
+Walked owners weights before after =
+    (i : ℕ) → i < IDS
+    → get_or after i 0 ≡ transition_shortfall owners i (get_or weights i 0) (get_or before i 0 - get_or weights i 0 * length owners) (length owners)

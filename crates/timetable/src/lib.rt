@@ -1,19 +1,20 @@
 // The timetable of one core: its limits, its fields and the empty one. Nothing here is refused.
 #![tactic(auto)]
 
-ghost use Rattle.std.specs.Prelude.{◌≡◌};
+ghost use Rattle.std.specs.Prelude.{length as length_of, true, ◌≡◌};
+ghost use Rattle.slots.specs.Limits.{IDS, LONGEST};
+ghost use Rattle.timetable.specs.Sound.{is_sound};
 ghost use Rattle.timetable.specs.Timetable.{absent_entry, empty_timetable};
 
 use slots::{CoreSlot, SliceCount};
 
-pub mod columns; // columns.rt: the entries as columns of numbers
 mod figures; // figures.rt: the figures of one entry
-mod soundness; // soundness.rt: whether a timetable is sound
+pub mod slot_bits; // slot_bits.rt: the slots of one cycle, one bit each
 mod serving; // serving.rt: whom a slot serves, and each id's shortfall and slices at a slot
+mod soundness; // soundness.rt: whether a timetable is sound
 
 pub use figures::{over_slot, weight_of};
-pub use serving::{owner_at, standing_at};
-pub use soundness::{are_sound, is_bound};
+pub use soundness::is_bound;
 
 // What a timetable holds for one id. A period of 0 says that the id is not listed.
 #[derive(Clone, Copy)]
@@ -47,6 +48,15 @@ pub struct Timetable {
     pub base: CoreSlot,
     pub entries: [Entry; Timetable::IDS],
     pub starts: [u16; Timetable::IDS],
+}
+
+// A timetable that is known to be sound, lent: who has one need not test it again.
+#[derive(Clone, Copy)]
+pub struct SoundTimetable<'a> {
+    pub timetable: &'a Timetable,
+    ghost sound: { is_sound timetable.now ≡ true },
+    ghost owners: { length_of timetable.now.owners ≡ LONGEST },
+    ghost entries: { length_of timetable.now.entries ≡ IDS },
 }
 
 // How an id stands at a slot: its shortfall at the slot's start, and the slices that it has had from the request slot up to there.

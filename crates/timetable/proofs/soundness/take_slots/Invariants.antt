@@ -1,5 +1,5 @@
--- `take_slots` meets its contract: the loop's invariant is that the entry's slots in the words below the word were free and are taken. Assumes nothing.
-use Prim.Native.Nat.{◌-◌}
+-- The loop's invariant of `take_slots` is that the entry's slots in the words below the word were free and are taken. Assumes nothing.
+use Rattle.std.proofs.Common.{◌-◌}
 use Rattle.timetable.proofs.TakenLaws.{Taking}
 use Rattle.timetable.specs.Marks.{WORDS}
 use Rattle.timetable.proofs.soundness.take_slots.Given as goal

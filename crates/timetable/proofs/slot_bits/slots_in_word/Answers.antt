@@ -1,7 +1,7 @@
 -- `slots_in_word` meets its contract. The loop's invariant: the bits are those of the offset's slots as far as they reach. Assumes nothing.
 use native.Mathlib.Omega.{arith}
 use Rattle.timetable.proofs.TakenLaws.{reaches_first, reaches_twice, reaches_all}
-use Rattle.timetable.proofs.soundness.slots_in_word.Goals as goal
+use Rattle.timetable.proofs.slot_bits.slots_in_word.Goals as goal
 
 pub loop-reach-init : goal.loop-reach-init
 loop-reach-init c = reaches_first c.args.period c.args.offset c.requires
