@@ -12,8 +12,6 @@ use Rattle.records.specs.AnswerForm.{listed_below}
 use Rattle.slots.proofs.Below.{count_most}
 use Rattle.slots.specs.Below.{count}
 use Rattle.slots.specs.Limits.{AREA, IDS, LONGEST}
-use Rattle.timetable.proofs.ColumnLaws.{columns_at}
-use Rattle.timetable.specs.Columns.{from_columns}
 use Rattle.timetable.specs.declared.Entry.{Entry}
 use Rattle.timetable.specs.Timetable.{entry_of, is_listed}
 
@@ -49,13 +47,3 @@ module _ (n : ℕ) (owners : List ℕ) (es : List Entry) where
       let high : length (take n owners) / 256 ≡ 0 = omega (arith, length-take-le n owners enough) in
       let low : length (take n owners) % 256 ≡ n = omega (arith, length-take-le n owners enough) in
       rw (high, low)
-
--- An answer shows periods and offsets alone: what the other two columns hold does not count.
-pub answer_columns : (size : ℕ) (owners periods offsets bounds shortfalls : List ℕ)
-    → answer_record size owners (from_columns periods offsets bounds shortfalls) ≡ answer_record size owners (from_columns periods offsets [] [])
-unfolding answer_record
-answer_columns size owners periods offsets bounds shortfalls =
-    let same : entry_fields (from_columns periods offsets bounds shortfalls) IDS ≡ entry_fields (from_columns periods offsets [] []) IDS =
-    rising_same _ _ IDS
-    (λ i k. rw (offset_in, columns_at periods offsets bounds shortfalls i k, columns_at periods offsets [] [] i k))
-    in rw same

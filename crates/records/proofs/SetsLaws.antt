@@ -1,8 +1,10 @@
 -- Bytes put at a place, one by one: a run behind another, one byte more, and what stands in and behind the run. Assumes nothing.
+use borrow.Rule.Slice.PartMut.{put_mid}
 use lib.ListN.{drop, get_or, length, set, take}
-use lib.Seq.{drop-length, get_or-set_other, length-take-le, set_comm, sets, sets-eq, take_at, take-suc}
+use lib.Seq.{drop-drop, drop-length, get_or-set_other, length-take-le, set_comm, sets, sets-eq, take_at, take-suc}
 use mathlib.Core.List.{List, [], ◌∷◌, ◌++◌, append-nil}
-use mathlib.Core.Path.{◌≡◌, refl, ap, ◌∙◌}
+use mathlib.Core.Path.{◌≡◌, refl, sym, ap, ◌∙◌}
+use Rattle.std.proofs.Common.{append_assoc}
 use native.Mathlib.Nat.{add-zero, zero-add}
 use native.Mathlib.Numerals.{add-one}
 use native.Mathlib.Omega.{arith}
@@ -28,6 +30,14 @@ pub sets_behind : (l : List ℕ) (i k : ℕ) (vs : List ℕ) (v : ℕ) → i + l
 sets_behind l i k [] v h = refl
 sets_behind l i k (w ∷ vs) v h =
     ap (λ (x : List ℕ). sets x (suc i) vs) (set_comm l k i v w (omega arith)) ∙ sets_behind (set l i w) (suc i) k vs v (omega arith)
+
+-- A run that is copied into a part of the list.
+pub sets_copied : (l vs copied : List ℕ) (i k : ℕ) → copied ≡ vs → length vs ≡ k → i + k ≤ length l → put_mid i k l copied ≡ sets l i vs
+sets_copied l vs copied i k e n h =
+    ap (λ (x : List ℕ). take i l ++ (x ++ drop k (drop i l))) e
+    ∙ ap (λ (x : List ℕ). take i l ++ (vs ++ x)) (drop-drop k i l ∙ ap (λ (m : ℕ). drop (i + m) l) (sym n))
+    ∙ sym (append_assoc (take i l) vs (drop (i + length vs) l))
+    ∙ sym (sets-eq vs l i (omega (arith, n)))
 
 -- What stands behind a run stays.
 pub sets_rest : (l : List ℕ) (i n : ℕ) (vs : List ℕ) → i + length vs ≤ n → get_or (sets l i vs) n 0 ≡ get_or l n 0

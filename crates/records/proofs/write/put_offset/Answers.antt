@@ -1,12 +1,9 @@
--- The head of the field, then its two bytes behind it. Assumes nothing.
-use lib.ListN.{length-set}
-use mathlib.Core.Path.{refl}
-use native.Mathlib.Omega.{arith}
-use Rattle.records.proofs.AreaLaws.{offset_field_at}
+-- The five bytes of the field are copied. Assumes nothing.
+use Rattle.std.proofs.Common.{[], ◌∷◌, refl, arith}
+use Rattle.records.proofs.SetsLaws.{sets_copied}
+use Rattle.records.specs.Answer.{field}
 use Rattle.records.proofs.write.put_offset.Goals as goal
 
-pub bounds-area-at-2 : goal.bounds-area-at-2
-bounds-area-at-2 c = simp length-set (omega arith)
-
 pub returns : goal.returns
-returns c = (refl, offset_field_at _ _ _ _ _ c.put_head.ensures)
+unfolding field
+returns c = sets_copied _ _ _ _ _ c.copy_from_slice.ensures.after (omega arith) (omega (arith, c.requires))
