@@ -85,12 +85,12 @@ module _ (es : List Entry) (starts : List ℕ) (size : ℕ) where
 
   module _ (n : ℕ) (l : n < IDS) (e : Entry) (p : e ≡ entry_of es n) (taken : Marks) (weights owed : List ℕ) (f : Fitting es starts size n taken weights owed) where
     -- One id is not well formed,
-    pub fit_unformed : (r : Bool) → r ≡ formed e → not r ≡ true → Fit es starts size false weights owed
+    pub fit_unformed : (r : Bool) → r ≡ formed e → r ≡ false → Fit es starts size false weights owed
     unfolding entries_in_range
     fit_unformed r q h = refuses es starts size weights owed (one_fails _ _ _ (scan_stops (entry_test es) IDS n r l (q ∙ ap formed p) h))
 
     -- its start is out of range,
-    pub fit_unborne : (r : Bool) → r ≡ start_in_range e (get_or starts n 0) → not r ≡ true → Fit es starts size false weights owed
+    pub fit_unborne : (r : Bool) → r ≡ start_in_range e (get_or starts n 0) → r ≡ false → Fit es starts size false weights owed
     fit_unborne r q h =
         refuses es starts size weights owed
         (three_fails (entries_in_range es) (none_shared es) _
@@ -101,12 +101,12 @@ module _ (es : List Entry) (starts : List ℕ) (size : ℕ) where
       own = (rw p at t).free ∙ free_apart es taken n f.says
 
       -- one of its slots is taken,
-      pub fit_shared : not r ≡ true → Fit es starts size false weights owed
+      pub fit_shared : r ≡ false → Fit es starts size false weights owed
       unfolding none_shared
       fit_shared h = refuses es starts size weights owed (two_fails (entries_in_range es) (none_shared es) _ (scan_stops (id_test es) IDS n r l own h))
 
       -- or it passes all, and its figures are put in.
-      pub fitting_next : (a b : Bool) → a ≡ formed e → not a ≡ false → b ≡ start_in_range e (get_or starts n 0) → not b ≡ false → not r ≡ false
+      pub fitting_next : (a b : Bool) → a ≡ formed e → a ≡ true → b ≡ start_in_range e (get_or starts n 0) → b ≡ true → r ≡ true
           → (v : ℕ) → v ≡ weight e → Fitting es starts size (n + 1) after (set weights n v) (set owed n (get_or starts n 0 + v * size))
       fitting_next a b qa ha qb hb h v q =
           let k = passed r r refl h in
@@ -149,7 +149,7 @@ weight_listed e f = at (is_listed e) refl
     at true h = lt-ltb 0 (weight e) (weight_pos e (period_whole e.period (f h).period) (f h).inside)
     at false h = ap (ltb 0) (weight_none e.period (omega (arith, ltb-false 0 e.period h)))
 
-module _ (t : Timetable) (r : Bool) (weights owed : List ℕ) (f : Fit t.entries t.starts t.length r weights owed) (h : not r ≡ false) where
+module _ (t : Timetable) (r : Bool) (weights owed : List ℕ) (f : Fit t.entries t.starts t.length r weights owed) (h : r ≡ true) where
   abbrev es : List Entry
   es = t.entries
 
@@ -165,7 +165,7 @@ module _ (t : Timetable) (r : Bool) (weights owed : List ℕ) (f : Fit t.entries
   owners_tell l = every_same _ _ t.length (λ n _. at (get_or t.owners n 0) (dec_lt (get_or t.owners n 0) IDS))
     where
       at : (o : ℕ) → Dec (o < IDS) → ltb o IDS && ltb 0 (get_or weights o 0) ≡ is_listed (entry_of es o)
-      at o (yes k) = rw (lt-ltb o IDS k, (f.weighed (not-false r h)).each o k) (weight_listed (entry_of es o) ((ranged_from es in_range).listed o k))
+      at o (yes k) = rw (lt-ltb o IDS k, (f.weighed h).each o k) (weight_listed (entry_of es o) ((ranged_from es in_range).listed o k))
       at o (no k) = rw (le-ltb o IDS (omega arith)) (sym (ap is_listed (past_end es o (omega arith))))
 
   -- What each id would be owed is small.
@@ -188,8 +188,8 @@ module _ (t : Timetable) (r : Bool) (weights owed : List ℕ) (f : Fit t.entries
     -- The pass over the owners can start,
     pub walkable : every (length transition) (weighs transition weights) ≡ true → Walkable transition weights owed
     walkable o =
-        let w = f.weighed (not-false r h) in
-        let a = f.added (not-false r h) in
+        let w = f.weighed h in
+        let a = f.added h in
         record {
           short = omega (arith, transition_length);
           ids = λ m k. ltb-true _ _ (and_both (ltb (get_or transition m 0) IDS) _ (every_at _ (length transition) o m k)).0;
@@ -205,9 +205,9 @@ module _ (t : Timetable) (r : Bool) (weights owed : List ℕ) (f : Fit t.entries
         at : (i : ℕ) → i < IDS → transition_shortfall transition i (get_or weights i 0) (get_or owed i 0 - get_or weights i 0 * length transition) (length transition)
             ≡ transition_shortfall t.owners i (weight (entry_of es i)) (get_or t.starts i 0) t.length
         at i k =
-            let w = (f.weighed (not-false r h)).each i k in
+            let w = (f.weighed h).each i k in
             let y : get_or owed i 0 - get_or weights i 0 * length transition ≡ get_or t.starts i 0 =
-            omega (arith, (f.added (not-false r h)).each i k, ap₂ ◌*◌ w transition_length) in
+            omega (arith, (f.added h).each i k, ap₂ ◌*◌ w transition_length) in
             ap₂ (λ (u v : ℕ). transition_shortfall transition i u v (length transition)) w y
             ∙ ap₂ (λ (o : List ℕ) (m : ℕ). transition_shortfall o i (weight (entry_of es i)) (get_or t.starts i 0) m) z transition_length
             ∙ walk_taken t.owners i (weight (entry_of es i)) (get_or t.starts i 0) t.length t.length (omega arith)

@@ -16,11 +16,11 @@ pub unmapped : (X Y : Type 0) (f : X → Y) (l : List X) (n : ℕ) → length (m
 unmapped X Y f l n h = sym (length-map l f) ∙ h
 
 -- A result that stands for a test, and is refused or passes.
-pub refused : (r s : Bool) → r ≡ s → not r ≡ true → s ≡ false
-refused r s e h = sym e ∙ not-true r h
+pub refused : (r s : Bool) → r ≡ s → r ≡ false → s ≡ false
+refused r s e h = sym e ∙ h
 
-pub passed : (r s : Bool) → r ≡ s → not r ≡ false → s ≡ true
-passed r s e h = sym e ∙ not-false r h
+pub passed : (r s : Bool) → r ≡ s → r ≡ true → s ≡ true
+passed r s e h = sym e ∙ h
 
 -- Two tests that agree below n.
 pub every_same : (f g : ℕ → Bool) (n : ℕ) → ((m : ℕ) → m < n → f m ≡ g m) → every n f ≡ every n g
@@ -30,11 +30,11 @@ every_same f g (suc n) h = ap₂ ◌&&◌ (every_same f g n (λ m l. h m (omega 
 
 module _ (test : ℕ → Bool) where
   -- A scan of all numbers below n that has come to m with the answer r: it stops where the test fails,
-  pub scan_stops : (n m : ℕ) (r : Bool) → m < n → r ≡ test m → not r ≡ true → false ≡ every n test
+  pub scan_stops : (n m : ℕ) (r : Bool) → m < n → r ≡ test m → r ≡ false → false ≡ every n test
   scan_stops n m r l e h = sym (every_not test n m l (refused r (test m) e h))
 
   -- goes on where it passes,
-  pub scan_goes : (m : ℕ) (r : Bool) → every m test ≡ true → r ≡ test m → not r ≡ false → every (m + 1) test ≡ true
+  pub scan_goes : (m : ℕ) (r : Bool) → every m test ≡ true → r ≡ test m → r ≡ true → every (m + 1) test ≡ true
   unfolding every
   scan_goes m r k e h = rw add-one (rw (k, passed r (test m) e h))
 

@@ -32,12 +32,7 @@ impl Entry {
         requires { entry_in_range self ≡ true }
         ensures { result ≡ last_offset self }
     {
-        let most = self.room();
-        if self.period <= most {
-            self.period - 1
-        } else {
-            most
-        }
+        self.room().min(self.period - 1)
     }
 
     // Whether the slot n slots after the base is its own.
@@ -115,8 +110,5 @@ pub fn after_own(owed: u16, since: u16) -> u16
     requires { owed + since < 65536 }
     ensures { result ≡ owed - WHOLE + since }
 {
-    if owed < Timetable::WHOLE {
-        return since;
-    }
-    owed - Timetable::WHOLE + since
+    owed.saturating_sub(Timetable::WHOLE) + since
 }

@@ -34,8 +34,9 @@ impl<'a> SoundTimetable<'a> {
         if x.0 < t.base.0 {
             let n = (x.0 - t.request.0) as usize;
             let owners = &t.owners[..n];
+            let start = t.starts[id as usize];
             return Standing {
-                shortfall: transition_shortfall(owners, id, weight_of(e.period), t.starts[id as usize]),
+                shortfall: transition_shortfall(owners, id, weight_of(e.period), start),
                 slices: SliceCount(transition_slices(owners, id)),
             };
         }

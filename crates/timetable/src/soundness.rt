@@ -58,7 +58,11 @@ impl Timetable {
     }
 
     // Each listed entry is in range and each other one all zero but for a shortfall below 2,048; each listed id's start is below 256 R, and every other one is the shortfall at the base; and no two share a cyclic slot: each in turn takes its slots of one cycle, and finds none taken. Each one's weight is put in, and what it would be owed at the base if no transition slot were its own: the start, and the weight for each slot.
-    fn entries_fit(&self, weights: &mut [u16; Timetable::IDS], owed: &mut [u16; Timetable::IDS]) -> bool
+    fn entries_fit(
+        &self,
+        weights: &mut [u16; Timetable::IDS],
+        owed: &mut [u16; Timetable::IDS],
+    ) -> bool
         requires { self.now.length ≤ LONGEST }
         ensures { Fit self.now.entries self.now.starts self.now.length result weights.new owed.new }
     {
@@ -146,21 +150,14 @@ impl Entry {
     }
 
     // Period and bound in range, the offset below the period, and the bound kept up to the first own slot.
+    #[tactic(auto, unfolding(crate::specs::Sound::entry_in_range))]
     fn in_range(self) -> bool
         ensures { result ≡ entry_in_range self }
     {
-        let p = self.period;
-        if !is_period(p) {
-            return false;
-        }
-        let bound = self.bound;
-        if !is_bound(bound) {
-            return false;
-        }
-        if p <= (self.offset as u16) {
-            return false;
-        }
-        self.is_kept()
+        is_period(self.period)
+            && is_bound(self.bound)
+            && (self.offset as u16) < self.period
+            && self.is_kept()
     }
 
     // Shortfall + offset x weight is below 256 R: both sides times the period, since period x weight is 256.
@@ -186,16 +183,13 @@ impl Entry {
     }
 
     // Offset and bound are zero, and the shortfall is below 256 R for the largest R.
+    #[tactic(auto, unfolding(crate::specs::Sound::entry_absent, slots::specs::Shortfall::keeps))]
     fn is_absent(self) -> bool
         ensures { result ≡ entry_absent self }
     {
-        if self.offset != 0 {
-            return false;
-        }
-        if self.bound != 0 {
-            return false;
-        }
-        self.shortfall < Timetable::WHOLE * (Timetable::LARGEST_BOUND as u16)
+        self.offset == 0
+            && self.bound == 0
+            && self.shortfall < Timetable::WHOLE * (Timetable::LARGEST_BOUND as u16)
     }
 }
 

@@ -84,8 +84,7 @@ pub returns : goal.returns
 returns c =
     let s = c.args.self in
     let t = s.timetable.now in
-    let e = counted s c.args.id c.args.x c.transition_slices-before.result c.slices_after-slices.result.0 c.slices_after-slices.result c.transition_slices-before.ensures c.slices_after-slices.ensures refl in
-    (
+    let e = counted s c.args.id c.args.x c.transition_slices-before.result c.slices_after-slices.result.0 c.slices_after-slices.result c.transition_slices-before.ensures c.slices_after-slices.ensures refl in (
       c.shortfall_after.ensures ∙ shortfall_cycle t (sound_from t s.sound) c.args.id c.requires.0 c.args.x c.if-x-t.false,
       ap slice_count e ∙ slices_cycle t (sound_from t s.sound) c.args.id c.args.x c.if-x-t.false,
     )

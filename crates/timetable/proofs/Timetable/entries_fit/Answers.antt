@@ -19,24 +19,24 @@ pub returns-then-not-is_well_formed : goal.returns-then-not-is_well_formed
 returns-then-not-is_well_formed c =
     let t = c.args.self.now in
     let l = c.loop-id in
-    fit_unformed t.entries t.starts t.length l.id c.loop-id-test.true (entry_of t.entries l.id) refl l.taken l.weights l.owed l.invariant _ c.is_well_formed.ensures (ap not c.if-not-is_well_formed.true)
+    fit_unformed t.entries t.starts t.length l.id c.loop-id-test.true (entry_of t.entries l.id) refl l.taken l.weights l.owed l.invariant _ c.is_well_formed.ensures c.if-not-is_well_formed.true
 
 pub returns-then-not-bears : goal.returns-then-not-bears
 returns-then-not-bears c =
     let t = c.args.self.now in
     let l = c.loop-id in
-    fit_unborne t.entries t.starts t.length l.id c.loop-id-test.true (entry_of t.entries l.id) refl l.taken l.weights l.owed l.invariant _ c.bears.ensures (ap not c.if-not-bears.true)
+    fit_unborne t.entries t.starts t.length l.id c.loop-id-test.true (entry_of t.entries l.id) refl l.taken l.weights l.owed l.invariant _ c.bears.ensures c.if-not-bears.true
 
 pub returns-then-not-take_slots : goal.returns-then-not-take_slots
 returns-then-not-take_slots c =
     let t = c.args.self.now in
     let l = c.loop-id in
-    fit_shared t.entries t.starts t.length l.id c.loop-id-test.true (entry_of t.entries l.id) refl l.taken l.weights l.owed l.invariant _ _ c.take_slots.ensures (ap not c.if-not-take_slots.true)
+    fit_shared t.entries t.starts t.length l.id c.loop-id-test.true (entry_of t.entries l.id) refl l.taken l.weights l.owed l.invariant _ _ c.take_slots.ensures c.if-not-take_slots.true
 
 pub weight_of-w-requires : goal.weight_of-w-requires
 weight_of-w-requires c =
     let e = entry_of c.args.self.now.entries c.loop-id.id in
-    let well : formed e ≡ true = passed _ _ c.is_well_formed.ensures (ap not c.if-not-is_well_formed.false) in
+    let well : formed e ≡ true = passed _ _ c.is_well_formed.ensures c.if-not-is_well_formed.false in
     λ h. period_is e.period (in_range_from e (sym (formed_listed e (lt-ltb 0 e.period h)) ∙ well)).period
 
 -- What the id would be owed fits.
@@ -56,7 +56,7 @@ pub loop-id-preserved : goal.loop-id-preserved
 loop-id-preserved c =
     let t = c.args.self.now in
     let l = c.loop-id in
-    fitting_next t.entries t.starts t.length l.id c.loop-id-test.true (entry_of t.entries l.id) refl l.taken l.weights l.owed l.invariant _ _ c.take_slots.ensures _ _ c.is_well_formed.ensures (ap not c.if-not-is_well_formed.false) c.bears.ensures (ap not c.if-not-bears.false) (ap not c.if-not-take_slots.false) _ c.weight_of-w.ensures
+    fitting_next t.entries t.starts t.length l.id c.loop-id-test.true (entry_of t.entries l.id) refl l.taken l.weights l.owed l.invariant _ _ c.take_slots.ensures _ _ c.is_well_formed.ensures c.if-not-is_well_formed.false c.bears.ensures c.if-not-bears.false c.if-not-take_slots.false _ c.weight_of-w.ensures
 
 pub returns : goal.returns
 returns c =

@@ -28,7 +28,7 @@ returns-then-not-owners_listed c =
     let t = c.args.self.now in
     let first = sym c.is_placed.ensures ∙ c.if-not-is_placed.false in
     let f = c.entries_fit.ensures in
-    let h = ap not c.if-not-entries_fit.false in
+    let h = c.if-not-entries_fit.false in
     let tells = c.owners_listed.ensures ∙ transition_owners t _ _ _ f h _ c.split_at.ensures.front (omega arith) (short t first) (omega arith) in
     sym (sound_owners t first (all_fit t _ _ _ f h) (sym tells ∙ c.if-not-owners_listed.true))
 
@@ -37,7 +37,7 @@ returns-then-not-are_zero c =
     let t = c.args.self.now in
     let first = sym c.is_placed.ensures ∙ c.if-not-is_placed.false in
     let f = c.entries_fit.ensures in
-    let h = ap not c.if-not-entries_fit.false in
+    let h = c.if-not-entries_fit.false in
     let tells = c.owners_listed.ensures ∙ transition_owners t _ _ _ f h _ c.split_at.ensures.front (omega arith) (short t first) (omega arith) in
     let rest : c.are_zero.result ≡ unused t = c.are_zero.ensures ∙ unused_tell t.owners t.length _ c.split_at.ensures.back (omega arith) (short t first) in
     sym (sound_unused t first (all_fit t _ _ _ f h) (sym tells ∙ c.if-not-owners_listed.false) (sym rest ∙ c.if-not-are_zero.true))
@@ -46,14 +46,14 @@ pub walk-requires : goal.walk-requires
 walk-requires c =
     let t = c.args.self.now in
     let first = sym c.is_placed.ensures ∙ c.if-not-is_placed.false in
-    walkable t _ _ _ c.entries_fit.ensures (ap not c.if-not-entries_fit.false) _ c.split_at.ensures.front (omega arith) (short t first) (sym c.owners_listed.ensures ∙ c.if-not-owners_listed.false)
+    walkable t _ _ _ c.entries_fit.ensures c.if-not-entries_fit.false _ c.split_at.ensures.front (omega arith) (short t first) (sym c.owners_listed.ensures ∙ c.if-not-owners_listed.false)
 
 pub returns : goal.returns
 returns c =
     let t = c.args.self.now in
     let first = sym c.is_placed.ensures ∙ c.if-not-is_placed.false in
     let f = c.entries_fit.ensures in
-    let h = ap not c.if-not-entries_fit.false in
+    let h = c.if-not-entries_fit.false in
     let tells = c.owners_listed.ensures ∙ transition_owners t _ _ _ f h _ c.split_at.ensures.front (omega arith) (short t first) (omega arith) in
     let rest : c.are_zero.result ≡ unused t = c.are_zero.ensures ∙ unused_tell t.owners t.length _ c.split_at.ensures.back (omega arith) (short t first) in
     c.are_shortfalls.ensures
