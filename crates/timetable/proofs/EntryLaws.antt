@@ -65,14 +65,6 @@ module _ (p b s : ℕ) where
       let w : weight_of p * p ≡ WHOLE = mul_comm (weight_of p) p ∙ period_whole p r in
       ap (λ (x : ℕ). (WHOLE * b - 1 - s) * p / x) (sym w) ∙ mul-div-mul_right (WHOLE * b - 1 - s) (weight_of p) (period_pos p r)
 
-  pub last_period : p ≤ room_of p b s → last_offset_of p b s ≡ p - 1
-  unfolding last_offset_of
-  last_period h = min-eq_right (omega arith)
-
-  pub last_room : room_of p b s < p → last_offset_of p b s ≡ room_of p b s
-  unfolding last_offset_of
-  last_room h = min-eq_left (omega arith)
-
 -- The numbers from which the room of an entry in range is worked out are small.
 module _ (e : Entry) (h : entry_in_range e ≡ true) where
   pub room_left : e.shortfall < WHOLE * e.bound

@@ -62,48 +62,7 @@ period_not p a b n =
       ne_eqb p 256 (λ h. n (inr (inr (inr (inr (inr (inr h))))))),
     )
 
--- The bound.
-pub bound_none : (r : ℕ) → r ≡ 0 → is_bound r ≡ false
-unfolding is_bound
-bound_none r h = rw (unlisted r h)
-
-pub bound_test : (r : ℕ) → (r ≡ 0 → ⊥) → is_bound r ≡ leb r LARGEST_BOUND
-unfolding is_bound
-bound_test r h = rw (listed r h)
-
 module _ (e : Entry) where
-  -- In range, test by test.
-  pub range_period : is_period e.period ≡ false → entry_in_range e ≡ false
-  unfolding entry_in_range
-  range_period a = rw a
-
-  module _ (a : is_period e.period ≡ true) where
-    pub range_bound : is_bound e.bound ≡ false → entry_in_range e ≡ false
-    unfolding entry_in_range
-    range_bound b = rw (a, b)
-
-    module _ (b : is_bound e.bound ≡ true) where
-      pub range_offset : e.period ≤ e.offset → entry_in_range e ≡ false
-      unfolding entry_in_range
-      range_offset h = rw (a, b, le-ltb e.offset e.period h)
-
-      pub range_kept : e.offset < e.period → entry_in_range e ≡ keeps e.bound (e.shortfall + e.offset * weight e)
-      unfolding entry_in_range
-      range_kept h = rw (a, b, lt-ltb e.offset e.period h)
-
-  -- Not listed, test by test.
-  pub absent_offset : (e.offset ≡ 0 → ⊥) → entry_absent e ≡ false
-  unfolding entry_absent
-  absent_offset a = rw (ne_eqb e.offset 0 a)
-
-  pub absent_bound : e.offset ≡ 0 → (e.bound ≡ 0 → ⊥) → entry_absent e ≡ false
-  unfolding entry_absent
-  absent_bound a b = rw (eq-eqb e.offset 0 a, ne_eqb e.bound 0 b)
-
-  pub absent_shortfall : e.offset ≡ 0 → e.bound ≡ 0 → entry_absent e ≡ ltb e.shortfall (WHOLE * LARGEST_BOUND)
-  unfolding entry_absent keeps
-  absent_shortfall a b = rw (eq-eqb e.offset 0 a, eq-eqb e.bound 0 b)
-
   -- In range, or all zero but for a shortfall in range, as it is listed.
   abbrev pub formed : Bool
   formed = cond (is_listed e) (entry_in_range e) (entry_absent e)
@@ -128,15 +87,6 @@ module _ (e : Entry) where
 module _ (request size base : ℕ) where
   abbrev pub is_placed : Bool
   is_placed = leb request LAST_SLOT && leb size LONGEST && eqb base (request + size)
-
-  pub placed_late : LAST_SLOT < request → is_placed ≡ false
-  placed_late h = rw (lt-leb request LAST_SLOT h)
-
-  pub placed_long : request ≤ LAST_SLOT → LONGEST < size → is_placed ≡ false
-  placed_long a h = rw (le-leb request LAST_SLOT a, lt-leb size LONGEST h)
-
-  pub placed_base : request ≤ LAST_SLOT → size ≤ LONGEST → is_placed ≡ eqb base (request + size)
-  placed_base a b = rw (le-leb request LAST_SLOT a, le-leb size LONGEST b)
 
   pub placed_length : is_placed ≡ true → size ≤ LONGEST
   placed_length h =

@@ -53,10 +53,6 @@ pub walk_next : (owners : List ℕ) (i w start n s r : ℕ) → s ≡ transition
 unfolding transition_shortfall
 walk_next owners i w start n s r p q = rw add-one (q ∙ ap (over_slot (eqb i (get_or owners n 0)) w) p)
 
-pub walk_all : (owners : List ℕ) (i w start n m s : ℕ) → m ≤ n → n ≤ m → s ≡ transition_shortfall owners i w start n
-    → s ≡ transition_shortfall owners i w start m
-walk_all owners i w start n m s a b p = let k : n ≡ m = omega arith in rw k at p
-
 -- The walk of an id that has no weight and none of the slots stays where it starts.
 pub walk_absent : (owners : List ℕ) (i s n : ℕ) → ((k : ℕ) → k < n → i ≢ get_or owners k 0) → transition_shortfall owners i 0 s n ≡ s
 unfolding transition_shortfall
