@@ -13,7 +13,7 @@ use Rattle.placement.proofs.Exchange.{Fair, Later, Serves}
 use Rattle.placement.proofs.Free.{In}
 use Rattle.placement.proofs.Greedy.{Right, Ahead, laid_none, place_right}
 use Rattle.placement.proofs.Last.{range_kept, kept_last, last_range}
-use Rattle.placement.proofs.Order.{ordered_from, ordered_all, ordered_in_order}
+use Rattle.placement.proofs.Ordered.{ordered_from, ordered_all, ordered_in_order}
 use Rattle.placement.proofs.Ranking.{rank_of}
 use Rattle.placement.proofs.Settle.{settle_at, settle_other}
 use Rattle.placement.specs.Any.{Lists, CyclicPlacement, chosen}

@@ -9,7 +9,7 @@ use native.Mathlib.Omega.{arith}
 use Prim.Native.Nat.{ℕ, ◌%◌, ◌≤◌, ◌<◌, ◌∣◌}
 use Rattle.placement.proofs.Exchange.{place_at, Later, Serves, exchange}
 use Rattle.placement.proofs.Free.{In, Free, Divide, Picked, picked}
-use Rattle.placement.proofs.Order.{InOrder, in_order_fair}
+use Rattle.placement.proofs.Ordered.{InOrder, in_order_fair}
 use Rattle.placement.proofs.Ranking.{rank_of}
 use Rattle.placement.specs.Placement.{Demand, Place, last_free, place_from}
 use Rattle.timetable.proofs.Ranges.{period_dvd}

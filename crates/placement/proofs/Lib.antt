@@ -1,6 +1,6 @@
 pub mod Free
 pub mod Exchange
-pub mod Order
+pub mod Ordered
 pub mod Greedy
 pub mod Last
 pub mod Settle

@@ -1,7 +1,7 @@
 -- Placing the demands one by one gives rule 4's placement. Beside places whose periods divide a period, an offset of it is free with all its slots
 -- exactly if its own slot is, so the table of taken slots tells the largest free offset. Assumes nothing.
 use lib.Dec.{eqb}
-use lib.ListN.{drop, get_or, length, length-replicate, length-set, replicate, set, take}
+use lib.ListN.{drop, get_or, get_or-replicate, length, length-replicate, length-set, replicate, set, take}
 use lib.Seq.{drop-cons, get_or-set_other, get_or-set_same, get_or-take, length-take-le}
 use mathlib.Core.Bool.{Bool, true, false, cond, not, ◌||◌}
 use mathlib.Core.List.{List, [], ◌∷◌, map}
@@ -15,20 +15,16 @@ use native.Mathlib.Omega.{arith}
 use Prim.Native.Nat.{ℕ, zero, suc, ◌+◌, ◌*◌, ◌/◌, ◌%◌, ◌≤◌, ◌<◌, ◌∣◌}
 use Rattle.placement.proofs.Exchange.{place_at}
 use Rattle.placement.proofs.Free.{In, Divide}
-use Rattle.placement.proofs.Order.{InOrder, in_order_fair, ordered_in_order}
+use Rattle.placement.proofs.Ordered.{InOrder, in_order_fair, ordered_in_order}
 use Rattle.placement.proofs.Settle.{length_settle}
 use Rattle.placement.proofs.Sorting.{listed_fair}
 use Rattle.placement.proofs.Table.{clear_below}
-use Rattle.placement.specs.declared.Placed.{Placed}
-use Rattle.placement.specs.declared.taken.Free.{Free}
-use Rattle.placement.specs.declared.taken.Free.TheVariants.{At, Nowhere}
+use Rattle.std.specs.Prelude.{Option as Answer, Some, None}
 use Rattle.placement.specs.Placed.{answer_of, demand_at, demands_of, offsets_of, placed_of, InOrderOfSome, Ranked, Says, last_clear, Finds, TakenToo}
 use Rattle.placement.specs.Placement.{Demand, Place, is_taken, all_free, last_free, place_from, placement, settle}
 use Rattle.slots.proofs.Below.{every_all, every_not, true_false}
 use Rattle.slots.specs.Limits.{IDS, WHOLE}
-use Rattle.timetable.proofs.ColumnLaws.{columns_are, columns_at, length_columns}
 use Rattle.timetable.proofs.Ranges.{Period, period_dvd, period_is, period_le, period_pos}
-use Rattle.timetable.specs.Columns.{from_columns, row_of, unplaced}
 use Rattle.timetable.specs.declared.Entry.{Entry}
 use Rattle.timetable.specs.Marks.{Marks}
 use Rattle.timetable.specs.Sound.{is_period}
@@ -47,15 +43,15 @@ taken_class (q ∷ ps) p d o m =
     ap₂ ◌||◌ (ap (λ (x : ℕ). eqb x q.offset) e) (taken_class ps p (λ r i. d r (inr i)) o m)
 
 -- An answer of the definition as the code's.
-abbrev as_free : Option ℕ → Free
-as_free none = Nowhere
-as_free (some o) = At o
+abbrev as_free : Option ℕ → Answer ℕ
+as_free none = None
+as_free (some o) = Some o
 
-as_none : (f : Option ℕ) → as_free f ≡ Nowhere → f ≡ none
+as_none : (f : Option ℕ) → as_free f ≡ None → f ≡ none
 as_none none e = refl
 as_none (some o) e = absurd (let z : ◌≡◌ {A = ℕ} 0 1 = cc in omega arith)
 
-as_some : (f : Option ℕ) (o : ℕ) → as_free f ≡ At o → f ≡ some o
+as_some : (f : Option ℕ) (o : ℕ) → as_free f ≡ Some o → f ≡ some o
 as_some none o e = absurd (let z : ◌≡◌ {A = ℕ} 0 1 = cc in omega arith)
 as_some (some i) o e = cc
 
@@ -80,13 +76,13 @@ module _ (ps : List Place) (p : ℕ) (period : Period p) (divide : Divide ps p) 
   unfolding last_clear last_free
   clear_free zero = rw (last_clear, all_free_slot zero) (at (is_taken ps zero))
     where
-      at : (b : Bool) → elim b [ true ↦ Nowhere | false ↦ At zero ] ≡ as_free (cond (not b) (some zero) none)
+      at : (b : Bool) → elim b [ true ↦ None | false ↦ Some zero ] ≡ as_free (cond (not b) (some zero) none)
       at true = refl
       at false = refl
   clear_free (suc n) = rw (last_clear, last_free, all_free_slot (suc n)) (at (is_taken ps (suc n)) (clear_free n))
     where
       at : (b : Bool) → last_clear ps (suc n) ≡ as_free (last_free ps p n)
-          → elim b [ true ↦ last_clear ps (suc n) | false ↦ At (suc n) ] ≡ as_free (elim (not b) [ true ↦ some (suc n) | false ↦ last_free ps p n ])
+          → elim b [ true ↦ last_clear ps (suc n) | false ↦ Some (suc n) ] ≡ as_free (elim (not b) [ true ↦ some (suc n) | false ↦ last_free ps p n ])
       at true e = e
       at false e = refl
 
@@ -120,11 +116,10 @@ drop_map zero ss = refl
 drop_map (suc i) [] = refl
 drop_map (suc i) (s ∷ ss) = drop_map i ss
 
-next_demand : (ranks : List ℕ) (count i : ℕ) → count ≤ length ranks → i < count
-    → drop i (demands_of ranks count) ≡ demand_at (get_or ranks i 0) ∷ drop (i + 1) (demands_of ranks count)
-next_demand ranks count i few l =
-    let size : i < length (take count ranks) = omega (arith, length-take-le count ranks few) in
-    rw (add-one i, drop_map i (take count ranks), drop_map (suc i) (take count ranks), drop-cons (take count ranks) i 0 size, get_or-take count ranks i 0 l)
+next_demand : (ranks : List ℕ) (count i : ℕ) → i < length (take count ranks)
+    → drop i (demands_of ranks count) ≡ demand_at (get_or (take count ranks) i 0) ∷ drop (i + 1) (demands_of ranks count)
+next_demand ranks count i size =
+    rw (add-one i, drop_map i (take count ranks), drop_map (suc i) (take count ranks), drop-cons (take count ranks) i 0 size)
 
 drop_past : (i : ℕ) (ss : List ℕ) → length ss ≤ i → drop i ss ≡ []
 drop_past zero [] l = refl
@@ -133,10 +128,8 @@ drop_past (suc i) [] l = refl
 drop_past (suc i) (s ∷ ss) l = drop_past i ss (omega arith)
 
 -- There is none after the last.
-no_demand : (ranks : List ℕ) (count i : ℕ) → count ≤ length ranks → count ≤ i → drop i (demands_of ranks count) ≡ []
-no_demand ranks count i few l =
-    let size : length (take count ranks) ≤ i = omega (arith, length-take-le count ranks few) in
-    drop_map i (take count ranks) ∙ ap (map demand_at) (drop_past i (take count ranks) size)
+no_demand : (ranks : List ℕ) (count i : ℕ) → length (take count ranks) ≤ i → drop i (demands_of ranks count) ≡ []
+no_demand ranks count i size = drop_map i (take count ranks) ∙ ap (map demand_at) (drop_past i (take count ranks) size)
 
 -- A demand with no free offset ends it, and one with a free offset takes the largest.
 module _ (ps : List Place) (d : Demand) (rest : List Demand) where
@@ -153,7 +146,7 @@ module _ (all : List Demand) (d : Demand) (rest : List Demand) (taken : Marks) (
   pub reached_fair : (is_period d.period ≡ true) × (d.last < d.period)
   reached_fair = (period_is d.period r.order.0.0, r.order.0.1)
 
-  module _ (l : ℕ) (last : l ≡ d.last) (f : Free) (found : Finds taken l f) where
+  module _ (l : ℕ) (last : l ≡ d.last) (f : Answer ℕ) (found : Finds taken l f) where
     -- What the search up to its last offset finds is what rule 4 takes.
     searched : f ≡ as_free (last_free r.places d.period d.last)
     searched =
@@ -161,11 +154,11 @@ module _ (all : List Demand) (d : Demand) (rest : List Demand) (taken : Marks) (
         ∙ clear_free r.places d.period r.order.0.0 (λ q m. r.divide q d m (inl refl)) d.last
 
     -- Without an offset for it there is no placement.
-    pub reached_stuck : f ≡ Nowhere → placed_of all ≡ record { found = false; offsets = replicate IDS 0 }
+    pub reached_stuck : f ≡ None → placed_of all ≡ None
     unfolding answer_of
     reached_stuck e = ap answer_of (r.onward ∙ place_stuck r.places d rest (as_none _ (sym searched ∙ e)))
 
-    module _ (o : ℕ) (e : f ≡ At o) where
+    module _ (o : ℕ) (e : f ≡ Some o) where
       -- An offset for it is below 256,
       pub reached_offset : o < WHOLE
       reached_offset = omega (arith, clear_below r.places (l + 1) o (sym (found r.places r.says) ∙ e), reached_fair, period_le d.period r.order.0.0)
@@ -189,33 +182,29 @@ module _ (all : List Demand) (d : Demand) (rest : List Demand) (taken : Marks) (
           divide q g (inr n) m = r.divide q g n (inr m)
 
 -- Once every demand has its place, the offsets are those of the places.
-pub reached_all : (all : List Demand) (taken : Marks) (offsets : List ℕ) → Reached all [] taken offsets → placed_of all ≡ record { found = true; offsets = offsets }
+pub reached_all : (all : List Demand) (taken : Marks) (offsets : List ℕ) → Reached all [] taken offsets → placed_of all ≡ Some offsets
 unfolding place_from answer_of
 reached_all all taken offsets r = rw r.settled (ap answer_of r.onward)
 
 -- ---- the turns
 
 -- After i turns the first i of the ranks' demands have their places.
-pub record Turn (ranks : List ℕ) (count : ℕ) (taken : Marks) (offsets : List ℕ) (i : ℕ) : Type 0 where
-  pub inside : i ≤ count
-  pub few : count ≤ length ranks
-  pub reached : Reached (demands_of ranks count) (drop i (demands_of ranks count)) taken offsets
+abbrev pub Turn : List ℕ → ℕ → Marks → List ℕ → ℕ → Type 0
+Turn ranks count taken offsets i = Reached (demands_of ranks count) (drop i (demands_of ranks count)) taken offsets
 
 -- The demand of rank i is the next.
 abbrev pub Next : List ℕ → ℕ → Marks → List ℕ → ℕ → Type 0
 Next ranks count taken offsets i =
-    Reached (demands_of ranks count) (demand_at (get_or ranks i 0) ∷ drop (i + 1) (demands_of ranks count)) taken offsets
+    Reached (demands_of ranks count) (demand_at (get_or (take count ranks) i 0) ∷ drop (i + 1) (demands_of ranks count)) taken offsets
 
 module _ (ranks : List ℕ) (count : ℕ) (taken : Marks) (offsets : List ℕ) (i : ℕ) (t : Turn ranks count taken offsets i) where
   -- The next turn places the demand of rank i,
-  pub turn_next : i < count → Next ranks count taken offsets i
-  turn_next l =
-      subst (λ (ds : List Demand). Reached (demands_of ranks count) ds taken offsets) (next_demand ranks count i t.few l) t.reached
+  pub turn_next : i < length (take count ranks) → Next ranks count taken offsets i
+  turn_next l = subst (λ (ds : List Demand). Reached (demands_of ranks count) ds taken offsets) (next_demand ranks count i l) t
 
   -- and the last one was the last demand's.
-  pub turn_last : count ≤ i → Reached (demands_of ranks count) [] taken offsets
-  turn_last l =
-      subst (λ (ds : List Demand). Reached (demands_of ranks count) ds taken offsets) (no_demand ranks count i t.few l) t.reached
+  pub turn_last : length (take count ranks) ≤ i → Reached (demands_of ranks count) [] taken offsets
+  turn_last l = subst (λ (ds : List Demand). Reached (demands_of ranks count) ds taken offsets) (no_demand ranks count i l) t
 
 -- ---- the entries placed
 
@@ -224,68 +213,54 @@ unfolding offsets_of
 length_offsets [] = length-replicate {A = ℕ} IDS 0
 length_offsets (p ∷ ps) = length-set (offsets_of ps) p.id p.offset ∙ length_offsets ps
 
--- The entries of columns, settled, are those of the columns with the places' offsets.
-settle_columns : (periods bounds shortfalls : List ℕ) (ps : List Place)
-    → settle (unplaced periods bounds shortfalls) ps ≡ from_columns periods (offsets_of ps) bounds shortfalls
+-- An entry that is not placed yet, settled, has its offset among those of the places.
+pub settle_offsets : (es : List Entry) → length es ≡ IDS → ((i : ℕ) → i < IDS → (entry_of es i).offset ≡ 0) → (ps : List Place) → (i : ℕ) → i < IDS
+    → entry_of (settle es ps) i ≡ with_offset (get_or (offsets_of ps) i 0) (entry_of es i)
 unfolding settle offsets_of
-settle_columns periods bounds shortfalls [] = refl
-settle_columns periods bounds shortfalls (p ∷ ps) =
-    sym
-    (columns_are periods (set (offsets_of ps) p.id p.offset) bounds shortfalls (settle es (p ∷ ps)) (length_settle es (p ∷ ps) ∙ size)
-    (λ i k. at (settle_columns periods bounds shortfalls ps) i k (ℕ_discrete i p.id)))
+settle_offsets es size unplaced [] i k =
+    ap (λ (o : ℕ). with_offset o (entry_of es i)) (unplaced i k ∙ sym (get_or-replicate {A = ℕ} IDS i 0 0 k))
+settle_offsets es size unplaced (p ∷ ps) i k = at (settle_offsets es size unplaced ps i k) (ℕ_discrete i p.id)
   where
-    es : List Entry
-    es = unplaced periods bounds shortfalls
-
-    size : length es ≡ IDS
-    size = length_columns periods (replicate IDS 0) bounds shortfalls
-
-    at : settle es ps ≡ from_columns periods (offsets_of ps) bounds shortfalls → (i : ℕ) → i < IDS → Dec (i ≡ p.id)
-        → row_of periods (set (offsets_of ps) p.id p.offset) bounds shortfalls i ≡ entry_of (settle es (p ∷ ps)) i
-    at ih i k (yes e) =
+    at : entry_of (settle es ps) i ≡ with_offset (get_or (offsets_of ps) i 0) (entry_of es i) → Dec (i ≡ p.id)
+        → entry_of (settle es (p ∷ ps)) i ≡ with_offset (get_or (offsets_of (p ∷ ps)) i 0) (entry_of es i)
+    at ih (yes e) =
         rw (
           ← e,
           get_or-set_same (offsets_of ps) i p.offset 0 (omega (arith, length_offsets ps)),
           get_or-set_same (settle es ps) i (with_offset p.offset (entry_of es i)) no_entry (omega (arith, length_settle es ps, size)),
-          columns_at periods (replicate IDS 0) bounds shortfalls i k,
         )
-    at ih i k (no e) =
+        refl
+    at ih (no e) =
         rw (
           get_or-set_other (offsets_of ps) p.id i p.offset 0 e,
           get_or-set_other (settle es ps) p.id i (with_offset p.offset (entry_of es p.id)) no_entry e,
-          ih,
         )
-        (sym (columns_at periods (offsets_of ps) bounds shortfalls i k))
+        ih
 
--- What an answer says of the placement of the entries that columns hold: there is none, or it is this one.
-module _ (periods bounds shortfalls ranks : List ℕ) (count : ℕ) (k : Ranked (unplaced periods bounds shortfalls) ranks count) (a : Placed) (e : a ≡ placed_of (demands_of ranks count)) where
+-- What an answer says of the placement of the entries: there is none, or it is this one.
+module _ (es : List Entry) (ranks : List ℕ) (count : ℕ) (k : Ranked es ranks count) (a : Answer (List ℕ)) (e : a ≡ placed_of (demands_of ranks count)) where
   -- The demands' placement is the entries'.
-  whole : placement (unplaced periods bounds shortfalls) ≡ place_from [] (demands_of ranks count)
+  whole : placement es ≡ place_from [] (demands_of ranks count)
   unfolding placement
   whole = ap (place_from []) (sym k.demands)
 
-  pub placed_none : a.found ≡ false → (placement (unplaced periods bounds shortfalls) ≡ none) × (a.offsets ≡ replicate IDS 0)
-  unfolding answer_of
-  placed_none h = at (placement (unplaced periods bounds shortfalls)) refl
-    where
-      at : (f : Option (List Place)) → placement (unplaced periods bounds shortfalls) ≡ f
-          → (placement (unplaced periods bounds shortfalls) ≡ none) × (a.offsets ≡ replicate IDS 0)
-      at none z = (z, ap (λ (x : Placed). x.offsets) (e ∙ ap answer_of (sym whole ∙ z)))
-      at (some ps) z = absurd (true_false (ap (λ (x : Placed). x.found) (e ∙ ap answer_of (sym whole ∙ z))) h)
+  -- So the answer is the entries'.
+  same : a ≡ answer_of (placement es)
+  same = e ∙ ap answer_of (sym whole)
 
-  pub placed_some : a.found ≡ true
-      → (ps : List Place) × (placement (unplaced periods bounds shortfalls) ≡ some ps)
-      × (settle (unplaced periods bounds shortfalls) ps ≡ from_columns periods a.offsets bounds shortfalls)
+  pub placed_none : a ≡ None → placement es ≡ none
   unfolding answer_of
-  placed_some h = at (placement (unplaced periods bounds shortfalls)) refl
+  placed_none h = at (placement es) (sym h ∙ same)
     where
-      at : (f : Option (List Place)) → placement (unplaced periods bounds shortfalls) ≡ f
-          → (ps : List Place) × (placement (unplaced periods bounds shortfalls) ≡ some ps)
-          × (settle (unplaced periods bounds shortfalls) ps ≡ from_columns periods a.offsets bounds shortfalls)
-      at none z = absurd (true_false h (ap (λ (x : Placed). x.found) (e ∙ ap answer_of (sym whole ∙ z))))
-      at (some ps) z = (
-        ps,
-        z,
-        settle_columns periods bounds shortfalls ps
-            ∙ ap (λ (x : Placed). from_columns periods x.offsets bounds shortfalls) (sym (e ∙ ap answer_of (sym whole ∙ z))),
-      )
+      at : (f : Option (List Place)) → None ≡ answer_of f → f ≡ none
+      at none z = refl
+      at (some ps) z = absurd (let y : ◌≡◌ {A = ℕ} 0 1 = cc in omega arith)
+
+  pub placed_some : (offsets : List ℕ) → a ≡ Some offsets → (ps : List Place) × (placement es ≡ some ps) × (offsets ≡ offsets_of ps)
+  unfolding answer_of
+  placed_some offsets h = at (placement es) refl (sym h ∙ same)
+    where
+      at : (f : Option (List Place)) → placement es ≡ f → Some offsets ≡ answer_of f
+          → (ps : List Place) × (placement es ≡ some ps) × (offsets ≡ offsets_of ps)
+      at none z y = absurd (let x : ◌≡◌ {A = ℕ} 0 1 = cc in omega arith)
+      at (some ps) z y = (ps, z, cc)

@@ -2,10 +2,10 @@
 use Prim.Native.Nat.{◌-◌}
 use Rattle.timetable.proofs.Marks.{Marked}
 use Rattle.timetable.specs.Marks.{WORDS}
-use Rattle.placement.proofs.taken.mark.Given as goal
+use Rattle.placement.proofs.taken.Taken.mark.Given as goal
 
 abbrev pub invariant-loop-word : goal.invariant-loop-word
-invariant-loop-word l = Marked l.initial.taken l.period l.offset l.taken l.word
+invariant-loop-word l = Marked l.initial.self.bits l.period l.offset l.self.bits l.word
 
 abbrev pub decreases-loop-word : goal.decreases-loop-word
 decreases-loop-word l = WORDS - l.word

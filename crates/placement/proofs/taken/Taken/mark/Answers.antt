@@ -4,31 +4,31 @@ use Rattle.placement.proofs.Table.{marked_all}
 use Rattle.timetable.proofs.Marks.{marked_none, marked_more}
 use Rattle.timetable.proofs.Ranges.{Period, period_from, period_le}
 use Rattle.timetable.specs.Marks.{with_bits}
-use Rattle.placement.proofs.taken.mark.Goals as goal
+use Rattle.placement.proofs.taken.Taken.mark.Goals as goal
 
 pub slots_in_word-slots-requires : goal.slots_in_word-slots-requires
-slots_in_word-slots-requires c = c.requires
+slots_in_word-slots-requires c = c.requires.1
 
-pub overflow_add-stride : goal.overflow_add-stride
-overflow_add-stride c =
+pub stride-stride-requires : goal.stride-stride-requires
+stride-stride-requires c =
     let range : Period c.args.period =
     period_from c.args.period c.requires.0 in
-    record { fits = omega (arith, period_le _ range) }
+    omega (arith, period_le _ range)
 
 pub loop-word-init : goal.loop-word-init
 loop-word-init c =
     let range : Period c.args.period =
     period_from c.args.period c.requires.0 in
-    marked_none c.args.taken.now c.args.period c.args.offset range c.requires.1
+    marked_none c.args.self.now.bits c.args.period c.args.offset range c.requires.1
 
 pub overflow_add-word : goal.overflow_add-word
 overflow_add-word c =
     let range : Period c.args.period =
     period_from c.args.period c.requires.0 in
-    record { fits = omega (arith, period_le _ range) }
+    record { fits = omega (arith, period_le _ range, c.stride-stride.ensures) }
 
 pub loop-word-smaller : goal.loop-word-smaller
-loop-word-smaller c = omega (arith, c.requires.1)
+loop-word-smaller c = omega (arith, c.requires.1, c.stride-stride.ensures)
 
 pub loop-word-preserved : goal.loop-word-preserved
 unfolding with_bits
@@ -37,9 +37,10 @@ loop-word-preserved c =
     period_from c.args.period c.requires.0 in
     let l = c.loop-word in
     let w = c.slots_in_word-slots in
-    marked_more c.args.taken.now c.args.period c.args.offset range c.requires.1 w.result w.ensures l.taken l.word (omega (arith, c.loop-word-test.true)) l.invariant
+    rw c.stride-stride.ensures
+    (marked_more c.args.self.now.bits c.args.period c.args.offset range c.requires.1 w.result w.ensures l.self.bits l.word (omega (arith, c.loop-word-test.true)) l.invariant)
 
 pub returns : goal.returns
 returns c =
     let l = c.loop-word in
-    marked_all c.args.taken.now c.args.period c.args.offset l.taken l.word (omega (arith, c.loop-word-test.false)) l.invariant
+    marked_all c.args.self.now.bits c.args.period c.args.offset l.self.bits l.word (omega (arith, c.loop-word-test.false)) l.invariant
