@@ -24,7 +24,7 @@ use Rattle.timetable.specs.declared.Entry.{Entry}
 use Rattle.timetable.specs.Timetable.{absent_entry, no_entry, entry_of, is_listed, weight}
 use Rattle.transition.proofs.UrgentRule.{Told, unmissed, room_bears, own_bears}
 use Rattle.transition.proofs.ToldLaws.{told}
-use Rattle.transition.specs.Plan.{Plan}
+use Rattle.transition.specs.declared.Plan.{Plan}
 use Rattle.transition.specs.RuleThree.{GoesTo, MostUrgent}
 use Rattle.transition.specs.Transition.{most_urgent, is_missed, over_entry, over_all, longer}
 

@@ -14,7 +14,8 @@ use Rattle.slots.specs.Below.{every, count}
 use Rattle.slots.specs.Limits.{LONGEST}
 use Rattle.transition.proofs.Plans.{Fit, Longer, longer_told, step_fit}
 use Rattle.transition.proofs.Search.{PassedFirst, Ended, found, missed, exhausted, search_ends}
-use Rattle.transition.specs.Plan.{Plan, Searched}
+use Rattle.transition.specs.declared.Plan.{Plan}
+use Rattle.transition.specs.Plan.{Searched}
 use Rattle.transition.specs.Reach.{reach_from, reach, is_none, has_none, is_reached, is_searched}
 use Rattle.transition.specs.Transition.{longer, search_from}
 

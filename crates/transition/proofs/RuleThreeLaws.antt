@@ -23,7 +23,7 @@ use Rattle.transition.proofs.Plans.{Fit, Longer, goes_bears, length_over, longer
 use Rattle.transition.proofs.Reach.{reach_fit}
 use Rattle.transition.proofs.UrgentRule.{missed_breaks}
 use Rattle.transition.proofs.Walk.{owners_stay, reach_before, step_before, walk_agree, walked}
-use Rattle.transition.specs.Plan.{Plan}
+use Rattle.transition.specs.declared.Plan.{Plan}
 use Rattle.transition.specs.Reach.{AnyoneBreaks, reach}
 use Rattle.transition.specs.RuleThree.{ByRuleThree, GoesTo, MostUrgent, walked_to}
 use Rattle.transition.specs.Transition.{longer, over_all, over_entry}

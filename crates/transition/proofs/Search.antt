@@ -8,7 +8,8 @@ use native.Mathlib.Omega.{arith}
 use Prim.Native.Nat.{ℕ, zero, suc, ◌+◌, ◌≤◌, ◌<◌}
 use Rattle.placement.specs.Placement.{Place, placement}
 use Rattle.transition.specs.declared.Ending.TheVariants.{Found, Missed, Exhausted}
-use Rattle.transition.specs.Plan.{Plan, Searched}
+use Rattle.transition.specs.declared.Plan.{Plan}
+use Rattle.transition.specs.Plan.{Searched}
 use Rattle.transition.specs.Reach.{reach_from}
 use Rattle.transition.specs.Transition.{longer, ended, passed, placed, search_from}
 

@@ -1,32 +1,34 @@
 -- Where the search of lengths stands at each turn, and the answer of each way to leave it. Assumes nothing.
-use lib.ListN.{length, replicate, set}
+use lib.ListN.{get_or, length, length-set, set}
+use lib.Seq.{ext_get_or, get_or-set_same, get_or-set_other}
 use mathlib.Core.Bool.{Bool, true, false}
 use mathlib.Core.List.{List}
-use mathlib.Core.Logic.{◌≢◌}
 use mathlib.Core.Option.{Option, none, some}
-use mathlib.Core.Path.{◌≡◌, refl, sym, ap, ap₂, ◌∙◌, subst}
+use mathlib.Core.Path.{◌≡◌, refl, sym, ap, ◌∙◌, subst}
+use native.Mathlib.Decide.{ℕ_discrete}
 use native.Mathlib.Nat.{sub-zero}
 use native.Mathlib.Numerals.{add-one}
 use native.Mathlib.Omega.{arith}
-use Prim.Native.Nat.{ℕ, suc, ◌+◌, ◌-◌, ◌≤◌}
-use Rattle.placement.proofs.Placing.{placed_none, placed_some}
-use Rattle.placement.proofs.Sorting.{ranked_listing, row_periods}
-use Rattle.placement.specs.declared.Placed.{Placed}
-use Rattle.placement.specs.Placed.{demands_of, placed_of, Listing, Ranked}
-use Rattle.placement.specs.Placement.{placement}
+use Prim.Native.Nat.{ℕ, suc, ◌+◌, ◌-◌, ◌≤◌, ◌<◌}
+use Rattle.placement.proofs.Placing.{placed_none, placed_some, settle_offsets}
+use Rattle.placement.proofs.Settle.{length_settle}
+use Rattle.placement.proofs.Sorting.{SamePeriods, listing_same, ranked_listing}
+use Rattle.placement.specs.Placed.{demands_of, offsets_of, placed_of, Listing, Ranked}
+use Rattle.placement.specs.Placement.{Place, placement, settle}
 use Rattle.slots.proofs.Below.{true_false}
-use Rattle.slots.specs.Limits.{IDS, LONGEST}
-use Rattle.timetable.proofs.ColumnLaws.{length_columns}
+use Rattle.slots.specs.Limits.{IDS}
+use Rattle.std.specs.Prelude.{Option as Answer, Some, None}
 use Rattle.timetable.proofs.Sound.{ranged_from, ranged_is}
-use Rattle.timetable.specs.Columns.{from_columns, unplaced}
 use Rattle.timetable.specs.declared.Entry.{Entry}
+use Rattle.timetable.specs.Sound.{entries_in_range}
+use Rattle.timetable.specs.Timetable.{entry_of, no_entry, with_offset}
 use Rattle.transition.proofs.Plans.{Step, Longer, longer_told, length_over, over_at_lem, over_ranged}
 use Rattle.transition.proofs.Search.{search_exhausted, search_found, search_missed, search_on}
-use Rattle.transition.specs.Coded.{next_of, plan_of, after, Ready}
+use Rattle.transition.specs.Coded.{after, next_of, settled_of, Ready}
 use Rattle.transition.specs.declared.Ending.{Ending}
 use Rattle.transition.specs.declared.Ending.TheVariants.{Found, Missed, Exhausted}
-use Rattle.transition.specs.Plan.{Plan, Searched}
-use Rattle.transition.specs.declared.SearchEnd.{SearchEnd}
+use Rattle.transition.specs.declared.Plan.{Plan}
+use Rattle.transition.specs.Plan.{Searched}
 use Rattle.transition.specs.Transition.{over_all, longer, ended, passed, placed, search_from}
 
 -- ---- the code's answers
@@ -59,130 +61,154 @@ after_none s =
     let k : s.tries ≡ 0 + s.tries = omega arith in
     ap (λ (t : ℕ). record { ending = s.ending; tries = t; plan = s.plan }) k
 
--- One more slot leaves a plan ready.
-ready_more : (n : ℕ) (plan next : Plan) → length plan.entries ≡ IDS → Ready plan → longer n plan ≡ some next
-    → (length next.entries ≡ IDS) × Ready next
-ready_more n plan next len r e = subst (λ (p : Plan). (length p.entries ≡ IDS) × Ready p) (sym s.is) (length_over plan.entries s.u ∙ len, ready)
+-- One more slot leaves a plan ready, at the same periods.
+pub record After (plan next : Plan) : Type 0 where
+  pub size : length next.entries ≡ IDS
+  pub ready : Ready next
+  pub periods : SamePeriods plan.entries next.entries
+
+ready_more : (n : ℕ) (plan next : Plan) → length plan.entries ≡ IDS → Ready plan → longer n plan ≡ some next → After plan next
+ready_more n plan next len r e = subst (After plan) (sym s.is) (record {
+  size = length_over plan.entries s.u ∙ len;
+  ready = record {
+    ranged = ranged_is _ (over_ranged plan.entries s.u len (ranged_from _ r.ranged) r.unplaced s.goes);
+    unplaced = λ i l. ap (λ (x : Entry). x.offset) (over_at_lem plan.entries s.u len i l) ∙ r.unplaced i l;
+  };
+  periods = λ i l. ap (λ (x : Entry). x.period) (over_at_lem plan.entries s.u len i l);
+})
   where
     s : Step n plan next
     s = subst (Longer n plan) e (longer_told n plan)
 
-    ready : Ready (record { owners = set plan.owners n s.u; entries = over_all plan.entries s.u })
-    ready = record {
-      ranged = ranged_is _ (over_ranged plan.entries s.u len (ranged_from _ r.ranged) r.unplaced s.goes);
-      unplaced = λ i l. ap (λ (x : Entry). x.offset) (over_at_lem plan.entries s.u len i l) ∙ r.unplaced i l;
-    }
+-- ---- the placement
+
+-- The offsets so far are put into the entries of the ids below a number.
+pub record Settling (start : List Entry) (offsets : List ℕ) (es : List Entry) (id : ℕ) : Type 0 where
+  pub inside : id ≤ IDS
+  pub size : length es ≡ IDS
+  pub below : (i : ℕ) → i < id → entry_of es i ≡ with_offset (get_or offsets i 0) (entry_of start i)
+  pub above : (i : ℕ) → id ≤ i → entry_of es i ≡ entry_of start i
+
+pub settling_none : (start : List Entry) (offsets : List ℕ) → length start ≡ IDS → Settling start offsets start 0
+settling_none start offsets l = record { inside = omega arith; size = l; below = λ i k. absurd (omega arith); above = λ i k. refl }
+
+-- One more is put.
+pub settling_next : (start : List Entry) (offsets : List ℕ) (es : List Entry) (id : ℕ) → id < IDS → Settling start offsets es id
+    → Settling start offsets (set es id (with_offset (get_or offsets id 0) (entry_of es id))) (id + 1)
+settling_next start offsets es id k h = record {
+  inside = omega arith;
+  size = length-set es id (with_offset (get_or offsets id 0) (entry_of es id)) ∙ h.size;
+  below = λ i l. at i l (ℕ_discrete i id);
+  above = λ i l. get_or-set_other es id i (with_offset (get_or offsets id 0) (entry_of es id)) no_entry (omega arith) ∙ h.above i (omega arith);
+}
+  where
+    at : (i : ℕ) → i < id + 1 → Dec (i ≡ id) → entry_of (set es id (with_offset (get_or offsets id 0) (entry_of es id))) i ≡ with_offset (get_or offsets i 0) (entry_of start i)
+    at i l (yes e) =
+        rw (e, get_or-set_same es id (with_offset (get_or offsets id 0) (entry_of es id)) no_entry (omega (arith, h.size)))
+        (ap (with_offset (get_or offsets id 0)) (h.above id (omega arith)))
+    at i l (no e) = get_or-set_other es id i (with_offset (get_or offsets id 0) (entry_of es id)) no_entry e ∙ h.below i (omega arith)
+
+module _ (plan : Plan) (size : length plan.entries ≡ IDS) (ready : Ready plan) (ranks : List ℕ) (count : ℕ) (k : Ranked plan.entries ranks count)
+    (a : Answer (List ℕ)) (e : a ≡ placed_of (demands_of ranks count)) where
+  -- Where there is no placement the plan is as it was.
+  pub settled_none : a ≡ None → (false, plan) ≡ settled_of plan (placement plan.entries)
+  unfolding settled_of
+  settled_none h = sym (ap (settled_of plan) (placed_none plan.entries ranks count k a e h))
+
+  -- All are put: the entries are those of the placement.
+  pub settled_some : (offsets : List ℕ) → a ≡ Some offsets → (es : List Entry) (id : ℕ) → IDS ≤ id → Settling plan.entries offsets es id
+      → (true, record { owners = plan.owners; entries = es }) ≡ settled_of plan (placement plan.entries)
+  unfolding settled_of placed
+  settled_some offsets h es id l t =
+      let w = placed_some plan.entries ranks count k a e offsets h in
+      ap (λ (x : List Entry). (true, record { owners = plan.owners; entries = x })) (same w.0 w.2) ∙ sym (ap (settled_of plan) w.1)
+    where
+      same : (ps : List Place) → offsets ≡ offsets_of ps → es ≡ settle plan.entries ps
+      same ps o =
+          ext_get_or no_entry _ _ (t.size ∙ sym (length_settle plan.entries ps ∙ size))
+          (λ i m.
+          let j : i < IDS = omega (arith, t.size) in
+          t.below i (omega (arith, t.inside)) ∙ ap (λ (x : List ℕ). with_offset (get_or x i 0) (entry_of plan.entries i)) o
+          ∙ sym (settle_offsets plan.entries size ready.unplaced ps i j))
+
+-- What the answer of a placement says of it.
+module _ (plan next : Plan) where
+  put_some : (o : Option (List Place)) → (true, next) ≡ settled_of plan o → (ps : List Place) × (o ≡ some ps) × (next ≡ placed plan ps)
+  unfolding settled_of
+  put_some none h = absurd (true_false refl (ap (λ (x : Bool × Plan). x.0) h))
+  put_some (some ps) h = (ps, refl, ap (λ (x : Bool × Plan). x.1) h)
+
+  put_none : (o : Option (List Place)) → (false, next) ≡ settled_of plan o → (o ≡ none) × (next ≡ plan)
+  unfolding settled_of
+  put_none none h = (refl, ap (λ (x : Bool × Plan). x.1) h)
+  put_none (some ps) h = absurd (true_false (ap (λ (x : Bool × Plan). x.0) h) refl)
 
 -- ---- the turns
 
--- The answer over columns, as the definition's.
-abbrev pub searched_of : SearchEnd → List ℕ → List ℕ → List ℕ → List ℕ → Searched
-searched_of r owners periods bounds shortfalls =
-    record { ending = r.ending; tries = r.tries; plan = record { owners = owners; entries = from_columns periods r.offsets bounds shortfalls } }
-
 -- The search stands at length n: so many lengths were passed over, what is left is the search from here on, and the order lists the ids.
-pub record Stands (start : Plan) (limit : ℕ) (periods bounds : List ℕ) (count : ℕ) (order shortfalls owners : List ℕ) (n tries : ℕ) : Type 0 where
-  pub within : n ≤ limit
-  pub counted : tries ≡ n
-  pub size : length shortfalls ≡ IDS
-  pub places : length owners ≡ LONGEST
-  pub ready : Ready (plan_of owners periods bounds shortfalls)
-  pub rest : search_from limit 0 start ≡ after n (search_from (limit - n) n (plan_of owners periods bounds shortfalls))
-  pub listing : Listing periods order count
+pub record Stands (start : Plan) (limit : ℕ) (plan : Plan) (ranks : List ℕ) (count n : ℕ) : Type 0 where
+  pub size : length plan.entries ≡ IDS
+  pub ready : Ready plan
+  pub listing : Listing plan.entries ranks count
+  pub rest : search_from limit 0 start ≡ after n (search_from (limit - n) n plan)
 
-pub stands_first : (limit : ℕ) (periods bounds : List ℕ) (count : ℕ) (order shortfalls owners : List ℕ) → length shortfalls ≡ IDS → length owners ≡ LONGEST
-    → Ready (plan_of owners periods bounds shortfalls) → Listing periods order count
-    → Stands (plan_of owners periods bounds shortfalls) limit periods bounds count order shortfalls owners 0 0
-stands_first limit periods bounds count order shortfalls owners a b r l =
-    record { within = omega arith; counted = refl; size = a; places = b; ready = r; rest = rw sub-zero (after_none _); listing = l }
+pub stands_first : (limit : ℕ) (plan : Plan) (ranks : List ℕ) (count : ℕ) → length plan.entries ≡ IDS → Ready plan → Listing plan.entries ranks count
+    → Stands plan limit plan ranks count 0
+stands_first limit plan ranks count a r l = record { size = a; ready = r; listing = l; rest = rw sub-zero (after_none _) }
 
-module _ {start : Plan} {limit : ℕ} {periods bounds : List ℕ} {count : ℕ} {order shortfalls owners : List ℕ} {n tries : ℕ}
-    (s : Stands start limit periods bounds count order shortfalls owners n tries) where
-  -- The plan here.
-  here : Plan
-  here = plan_of owners periods bounds shortfalls
-
+module _ {start : Plan} {limit : ℕ} {plan : Plan} {ranks : List ℕ} {count n : ℕ} (s : Stands start limit plan ranks count n) where
   -- The search ends here, with this length counted.
-  ends : (e : Ending) (p q : Plan) → search_from (limit - n) n here ≡ ended e q → q ≡ p
-      → search_from limit 0 start ≡ record { ending = e; tries = tries + 1; plan = p }
-  unfolding after ended here
-  ends e p q h k =
-      s.rest ∙ ap (after n) h ∙ ap₂ (λ (t : ℕ) (x : Plan). record { ending = e; tries = t + 1; plan = x }) (sym s.counted) k
+  ends : (e : Ending) (p q : Plan) → search_from (limit - n) n plan ≡ ended e q → q ≡ p
+      → search_from limit 0 start ≡ record { ending = e; tries = n + 1; plan = p }
+  unfolding after ended
+  ends e p q h k = s.rest ∙ ap (after n) h ∙ ap (λ (x : Plan). record { ending = e; tries = n + 1; plan = x }) k
 
-  module _ {ranks : List ℕ} (k : Ranked (unplaced periods bounds shortfalls) ranks count) {r : Placed} (h : r ≡ placed_of (demands_of ranks count)) where
-    pub stands_found : r.found ≡ true
-        → search_from limit 0 start ≡ searched_of (record { ending = Found n; tries = tries + 1; offsets = r.offsets }) owners periods bounds shortfalls
-    unfolding placed here
+  module _ (g : Bool) (next : Plan) (h : (g, next) ≡ settled_of plan (placement plan.entries)) where
+    -- This length has a placement, or none.
+    pub stands_found : g ≡ true → search_from limit 0 start ≡ record { ending = Found n; tries = n + 1; plan = next }
     stands_found f =
-        let w = placed_some periods bounds shortfalls ranks count k r h f in
-        ends
-        (Found n)
-        (record { owners = owners; entries = from_columns periods r.offsets bounds shortfalls })
-        (placed here w.0)
-        (search_found n here (limit - n) w.0 w.1)
-        (ap (λ (es : List Entry). record { owners = owners; entries = es }) w.2)
+        let w = put_some plan next (placement plan.entries) (ap (λ (x : Bool). (x, next)) (sym f) ∙ h) in
+        ends (Found n) next (placed plan w.0) (search_found n plan (limit - n) w.0 w.1) (sym w.2)
 
-    module _ (f : r.found ≡ false) where
-      -- Nothing is placed.
-      nothing_placed : here ≡ record { owners = owners; entries = from_columns periods r.offsets bounds shortfalls }
-      unfolding here
-      nothing_placed =
-          ap (λ (o : List ℕ). record { owners = owners; entries = from_columns periods o bounds shortfalls })
-          (sym (placed_none periods bounds shortfalls ranks count k r h f).1)
+    module _ (f : g ≡ false) where
+      stuck : (placement plan.entries ≡ none) × (next ≡ plan)
+      stuck = put_none plan next (placement plan.entries) (ap (λ (x : Bool). (x, next)) (sym f) ∙ h)
 
-      -- There is no placement here.
-      stuck : placement here.entries ≡ none
-      unfolding here
-      stuck = (placed_none periods bounds shortfalls ranks count k r h f).0
+      -- The plan is still in range.
+      pub stands_ranged : entries_in_range next.entries ≡ true
+      stands_ranged = ap (λ (x : Plan). entries_in_range x.entries) stuck.1 ∙ s.ready.ranged
 
-      pub stands_exhausted : n ≡ limit
-          → search_from limit 0 start ≡ searched_of (record { ending = Exhausted n; tries = tries + 1; offsets = r.offsets }) owners periods bounds shortfalls
+      pub stands_exhausted : n ≡ limit → search_from limit 0 start ≡ record { ending = Exhausted n; tries = n + 1; plan = next }
       stands_exhausted e =
           let z : limit - n ≡ 0 = omega arith in
-          ends (Exhausted n) _ here (ap (λ (x : ℕ). search_from x n here) z ∙ search_exhausted n here stuck) nothing_placed
+          ends (Exhausted n) next plan (ap (λ (x : ℕ). search_from x n plan) z ∙ search_exhausted n plan stuck.0) (sym stuck.1)
 
-      module _ (l : n ≢ limit) (after-shortfalls after-owners : List ℕ) where
-        -- The plan after one more slot, or the same.
-        next : Plan
-        next = plan_of after-owners periods bounds after-shortfalls
-
+      module _ (l : n < limit) (given : Bool) (then : Plan) (t : (given, then) ≡ next_of next (longer n next)) where
         -- The lengths that are left.
         left : limit - n ≡ suc (limit - (n + 1))
-        left = omega (arith, s.within)
+        left = omega arith
 
-        pub stands_missed : (g : Bool) → (g, plan_of after-owners periods bounds after-shortfalls) ≡ next_of (plan_of owners periods bounds shortfalls) (longer n (plan_of owners periods bounds shortfalls)) → g ≡ false
-            → search_from limit 0 start
-            ≡ searched_of (record { ending = Missed n; tries = tries + 1; offsets = r.offsets }) after-owners periods bounds after-shortfalls
-        unfolding here next
-        stands_missed g e z =
-            let m = given_none here next (longer n here) (ap (λ (x : Bool). (x, next)) (sym z) ∙ e) in
-            ends
-            (Missed n)
-            (record { owners = after-owners; entries = from_columns periods r.offsets bounds after-shortfalls })
-            here
-            (ap (λ (x : ℕ). search_from x n here) left ∙ search_missed n here (limit - (n + 1)) stuck m.0)
-            (sym m.1
-            ∙ ap (λ (o : List ℕ). record { owners = after-owners; entries = from_columns periods o bounds after-shortfalls })
-            (sym (placed_none periods bounds shortfalls ranks count k r h f).1))
+        -- What one more slot gives.
+        gives : (given, then) ≡ next_of plan (longer n plan)
+        gives = subst (λ (x : Plan). (given, then) ≡ next_of x (longer n x)) stuck.1 t
 
-        pub stands_on : (g : Bool) → (g, plan_of after-owners periods bounds after-shortfalls) ≡ next_of (plan_of owners periods bounds shortfalls) (longer n (plan_of owners periods bounds shortfalls)) → g ≡ true
-            → length after-shortfalls ≡ IDS → length after-owners ≡ LONGEST
-            → Stands start limit periods bounds count ranks after-shortfalls after-owners (n + 1) (tries + 1)
-        unfolding here next
-        stands_on g e z a b =
-            let m = given_some here next (longer n here) (ap (λ (x : Bool). (x, next)) (sym z) ∙ e) in
-            let q = ready_more n here next (length_columns periods (replicate IDS 0) bounds shortfalls) s.ready m in
+        pub stands_missed : given ≡ false → search_from limit 0 start ≡ record { ending = Missed n; tries = n + 1; plan = then }
+        stands_missed z =
+            let m = given_none plan then (longer n plan) (ap (λ (x : Bool). (x, then)) (sym z) ∙ gives) in
+            ends (Missed n) then plan (ap (λ (x : ℕ). search_from x n plan) left ∙ search_missed n plan (limit - (n + 1)) stuck.0 m.0) (sym m.1)
+
+        pub stands_on : given ≡ true → (order : List ℕ) (many : ℕ) → Ranked plan.entries order many → Stands start limit then order many (n + 1)
+        stands_on z order many k =
+            let m = given_some plan then (longer n plan) (ap (λ (x : Bool). (x, then)) (sym z) ∙ gives) in
+            let q = ready_more n plan then s.size s.ready m in
             record {
-              within = omega (arith, s.within);
-              counted = ap (λ (x : ℕ). x + 1) s.counted;
-              size = a;
-              places = b;
-              ready = q.1;
+              size = q.size;
+              ready = q.ready;
+              listing = listing_same plan.entries then.entries q.periods order many (ranked_listing plan.entries s.ready.ranged order many k);
               rest =
                   s.rest
-                  ∙ ap (λ (x : ℕ). after n (search_from x n here)) left
-                  ∙ ap (after n) (search_on n here (limit - (n + 1)) next stuck m)
-                  ∙ after_passed n (search_from (limit - (n + 1)) (suc n) next)
-                  ∙ ap (λ (x : ℕ). after x (search_from (limit - (n + 1)) x next)) (sym (add-one n));
-              listing = ranked_listing (unplaced periods bounds shortfalls) s.ready.ranged periods (row_periods periods bounds shortfalls) ranks count k;
+                  ∙ ap (λ (x : ℕ). after n (search_from x n plan)) left
+                  ∙ ap (after n) (search_on n plan (limit - (n + 1)) then stuck.0 m)
+                  ∙ after_passed n (search_from (limit - (n + 1)) (suc n) then)
+                  ∙ ap (λ (x : ℕ). after x (search_from (limit - (n + 1)) x then)) (sym (add-one n));
             }

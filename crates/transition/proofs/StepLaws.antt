@@ -2,8 +2,8 @@
 -- Assumes nothing.
 use borrow.Author.Tests.{lt-ltb, le-ltb, eq-eqb, ne_eqb, eqb-true}
 use lib.Dec.{eqb}
-use lib.ListN.{get_or, length, length-set, replicate, set}
-use lib.Seq.{get_or-set_same, get_or-set_other}
+use lib.ListN.{length, length-set, set}
+use lib.Seq.{ext_get_or, get_or-set_same, get_or-set_other}
 use mathlib.Core.Bool.{Bool, true, false, cond, ◌&&◌}
 use mathlib.Core.List.{List}
 use mathlib.Core.Logic.{◌≢◌, ◌⊎◌, inl, inr}
@@ -13,28 +13,25 @@ use native.Mathlib.Decide.{ℕ_discrete, dec_lt}
 use native.Mathlib.Numerals.{add-one}
 use native.Mathlib.Omega.{arith}
 use Prim.Native.Nat.{ℕ, zero, suc, ◌+◌, ◌*◌, ◌≤◌, ◌<◌}
-use Rattle.placement.proofs.Sorting.{row_at_lem}
 use Rattle.placement.specs.Any.{Lists}
 use Rattle.slots.proofs.Below.{and_both, count_first, count_most, count_rises, decided}
 use Rattle.slots.specs.Below.{count}
 use Rattle.slots.specs.Limits.{IDS, WHOLE, LARGEST_BOUND}
-use Rattle.slots.specs.Shortfall.{over_slot, room_of, weight_of}
-use Rattle.timetable.proofs.ColumnLaws.{columns_are, columns_at, length_columns}
+use Rattle.slots.specs.Shortfall.{over_slot}
+use Rattle.std.specs.Prelude.{Option as Answer, Some, None}
 use Rattle.timetable.proofs.EntryLaws.{room_below, weight_le}
 use Rattle.timetable.proofs.Ranges.{in_range_from, period_is}
 use Rattle.timetable.proofs.Sound.{Ranged, ranged_from}
 use Rattle.timetable.proofs.SoundLaws.{entry_range}
-use Rattle.timetable.specs.Columns.{unplaced}
 use Rattle.timetable.specs.declared.Entry.{Entry}
-use Rattle.timetable.specs.Sound.{entries_in_range, entry_in_range}
-use Rattle.timetable.specs.Timetable.{entry_of, is_listed, room}
+use Rattle.timetable.specs.Sound.{entries_in_range, is_period}
+use Rattle.timetable.specs.Timetable.{entry_of, is_listed, no_entry, room, weight, with_shortfall}
 use Rattle.transition.proofs.BestLaws.{Best, Beside, best_start, best_unlisted, best_less, best_kept}
 use Rattle.transition.proofs.Plans.{length_over, over_at_lem}
 use Rattle.transition.proofs.UrgentRule.{Told, missed, unmissed}
 use Rattle.transition.proofs.ToldLaws.{told}
-use Rattle.transition.specs.Coded.{next_of, owner_of, plan_of, OverSlot, Rising}
-use Rattle.transition.specs.Plan.{Plan}
-use Rattle.transition.specs.declared.Urgent.TheVariants.{Id, Nobody}
+use Rattle.transition.specs.Coded.{next_of, owner_of}
+use Rattle.transition.specs.declared.Plan.{Plan}
 use Rattle.transition.specs.RuleThree.{MostUrgent}
 use Rattle.transition.specs.Transition.{most_urgent, is_missed, over_entry, over_all, longer}
 
@@ -125,60 +122,50 @@ module _ (es : List Entry) (u : ℕ) (m : MostUrgent es IDS u) where
 -- ---- the slot's owner
 
 -- What a scan that has come to id n holds: the most urgent so far, and how many have no room.
-pub record Scanned (es : List Entry) (urgent least pressed n : ℕ) : Type 0 where
+pub record Scanned (es : List Entry) (urgent : Answer ℕ) (least pressed n : ℕ) : Type 0 where
   pub inside : n ≤ IDS
   pub best : Best es n urgent least
   pub counted : pressed ≡ pressed_below es n
 
-module _ (es : List Entry) (urgent least pressed : ℕ) (n : ℕ) (h : IDS ≤ n) (s : Scanned es urgent least pressed n) where
+module _ (es : List Entry) (least pressed : ℕ) (n : ℕ) (h : IDS ≤ n) where
   -- All ids have been looked at.
-  whole : Best es IDS urgent least × (pressed ≡ pressed_below es IDS)
-  whole = let e : n ≡ IDS = omega (arith, s.inside) in subst (λ (x : ℕ). Best es x urgent least × (pressed ≡ pressed_below es x)) e (s.best, s.counted)
+  whole : (urgent : Answer ℕ) → Scanned es urgent least pressed n → Best es IDS urgent least × (pressed ≡ pressed_below es IDS)
+  whole urgent s = let e : n ≡ IDS = omega (arith, s.inside) in subst (λ (x : ℕ). Best es x urgent least × (pressed ≡ pressed_below es x)) e (s.best, s.counted)
 
-  -- Nobody is listed, the slot is missed, or it goes to the most urgent.
-  pub scanned_nobody : urgent ≡ IDS → Nobody ≡ owner_of es
+  -- The most urgent has the least room.
+  most : (u : ℕ) → most_urgent es IDS ≡ some u → MostUrgent es IDS u
+  most u e = subst (Told es IDS) e (told es IDS)
+
+  -- The slot is missed, or it goes to the most urgent, if anybody is listed.
+  pub scanned_missed : (urgent : Answer ℕ) → Scanned es urgent least pressed n → 1 < pressed → None ≡ owner_of es
   unfolding owner_of
-  scanned_nobody z = at whole.0
-    where
-      at : Best es IDS urgent least → Nobody ≡ owner_of es
-      at (inl b) = rw (owner_of, b.0)
-      at (inr b) = absurd (omega (arith, b.1))
+  scanned_missed None s l = let w = whole None s in rw (owner_of, w.0.0)
+  scanned_missed (Some u) s l = let w = whole (Some u) s in rw (owner_of, w.0.0, many_missed es u (most u w.0.0) (omega (arith, w.1)))
 
-  -- The most urgent, where somebody is listed.
-  found : urgent ≢ IDS → (most_urgent es IDS ≡ some urgent) × MostUrgent es IDS urgent
-  found z = at whole.0
-    where
-      at : Best es IDS urgent least → (most_urgent es IDS ≡ some urgent) × MostUrgent es IDS urgent
-      at (inl b) = absurd (z b.1)
-      at (inr b) = (b.0, subst (Told es IDS) b.0 (told es IDS))
-
-  pub scanned_missed : urgent ≢ IDS → 1 < pressed → Nobody ≡ owner_of es
+  pub scanned_all : (urgent : Answer ℕ) → Scanned es urgent least pressed n → pressed ≤ 1 → urgent ≡ owner_of es
   unfolding owner_of
-  scanned_missed z l = let w = found z in rw (owner_of, w.0, many_missed es urgent w.1 (omega (arith, whole.1)))
-
-  pub scanned_id : urgent ≢ IDS → pressed ≤ 1 → Id urgent ≡ owner_of es
-  unfolding owner_of
-  scanned_id z l = let w = found z in rw (owner_of, w.0, few_unmissed es urgent w.1 (omega (arith, whole.1)))
+  scanned_all None s l = let w = whole None s in rw (owner_of, w.0.0)
+  scanned_all (Some u) s l = let w = whole (Some u) s in rw (owner_of, w.0.0, few_unmissed es u (most u w.0.0) (omega (arith, w.1)))
 
 -- What the owner says of the plan that follows.
 module _ (n : ℕ) (plan : Plan) where
-  pub owner_nobody : owner_of plan.entries ≡ Nobody → longer n plan ≡ none
+  pub owner_nobody : owner_of plan.entries ≡ None → longer n plan ≡ none
   unfolding longer owner_of
   owner_nobody h = at (most_urgent plan.entries IDS) h
     where
       next : ℕ → Plan
       next u = record { owners = set plan.owners n u; entries = over_all plan.entries u }
 
-      with_id : (u : ℕ) (b : Bool) → cond b Nobody (Id u) ≡ Nobody → cond b none (some (next u)) ≡ none
+      with_id : (u : ℕ) (b : Bool) → ◌≡◌ {A = Answer ℕ} (cond b None (Some u)) None → cond b none (some (next u)) ≡ none
       with_id u true e = refl
       with_id u false e = absurd (let z : ◌≡◌ {A = ℕ} 0 1 = cc in omega arith)
 
-      at : (o : Option ℕ) → elim o [ none ↦ Nobody | some u ↦ cond (is_missed plan.entries u) Nobody (Id u) ] ≡ Nobody
+      at : (o : Option ℕ) → ◌≡◌ {A = Answer ℕ} (elim o [ none ↦ None | some u ↦ cond (is_missed plan.entries u) None (Some u) ]) None
           → ◌≡◌ {A = Option Plan} (elim o [ none ↦ none | some u ↦ cond (is_missed plan.entries u) none (some (next u)) ]) none
       at none e = refl
       at (some u) e = with_id u (is_missed plan.entries u) e
 
-  pub owner_id : (u : ℕ) → owner_of plan.entries ≡ Id u
+  pub owner_id : (u : ℕ) → owner_of plan.entries ≡ Some u
       → (u < IDS) × (longer n plan ≡ some (record { owners = set plan.owners n u; entries = over_all plan.entries u }))
   unfolding longer owner_of
   owner_id u h = at (most_urgent plan.entries IDS) (told plan.entries IDS) h
@@ -186,11 +173,11 @@ module _ (n : ℕ) (plan : Plan) where
       next : ℕ → Plan
       next v = record { owners = set plan.owners n v; entries = over_all plan.entries v }
 
-      with_id : (v : ℕ) → v < IDS → (b : Bool) → cond b Nobody (Id v) ≡ Id u → (u < IDS) × (cond b none (some (next v)) ≡ some (next u))
+      with_id : (v : ℕ) → v < IDS → (b : Bool) → ◌≡◌ {A = Answer ℕ} (cond b None (Some v)) (Some u) → (u < IDS) × (cond b none (some (next v)) ≡ some (next u))
       with_id v k true e = absurd (let z : ◌≡◌ {A = ℕ} 0 1 = cc in omega arith)
       with_id v k false e = let z : v ≡ u = cc in (omega arith, ap (λ (x : ℕ). some (next x)) z)
 
-      at : (o : Option ℕ) → Told plan.entries IDS o → elim o [ none ↦ Nobody | some v ↦ cond (is_missed plan.entries v) Nobody (Id v) ] ≡ Id u
+      at : (o : Option ℕ) → Told plan.entries IDS o → ◌≡◌ {A = Answer ℕ} (elim o [ none ↦ None | some v ↦ cond (is_missed plan.entries v) None (Some v) ]) (Some u)
           → (u < IDS) × (elim o [ none ↦ none | some v ↦ cond (is_missed plan.entries v) none (some (next v)) ] ≡ some (next u))
       at none t e = absurd (let z : ◌≡◌ {A = ℕ} 0 1 = cc in omega arith)
       at (some v) t e = with_id v t.below (is_missed plan.entries v) e
@@ -205,145 +192,116 @@ owes_less es h i k = at (decided (is_listed (entry_of es i))) (ranged_from es h)
     at (inl l) r = let q = r.listed i k l in omega (arith, q.kept, q.bound_high)
     at (inr l) r = (r.absent i k l).below
 
-module _ (periods bounds shortfalls : List ℕ) (h : entries_in_range (unplaced periods bounds shortfalls) ≡ true) where
-  -- A listed entry is in range.
-  pub row_ranged : (i : ℕ) → i < IDS → 0 < get_or periods i 0
-      → entry_in_range (record { period = get_or periods i 0; offset = 0; bound = get_or bounds i 0; shortfall = get_or shortfalls i 0 }) ≡ true
-  row_ranged i k l =
-      ap entry_in_range (sym (row_at_lem periods bounds shortfalls i k))
-      ∙ entry_range (unplaced periods bounds shortfalls) i h k (ap is_listed (row_at_lem periods bounds shortfalls i k) ∙ lt-ltb 0 (get_or periods i 0) l)
+module _ (es : List Entry) (h : entries_in_range es ≡ true) (i : ℕ) (k : i < IDS) where
+  -- A listed entry has a period,
+  pub weighed : 0 < (entry_of es i).period → is_period (entry_of es i).period ≡ true
+  weighed l = period_is (entry_of es i).period (in_range_from _ (entry_range es i h k (lt-ltb 0 (entry_of es i).period l))).period
 
-  -- So the shortfalls can rise.
-  pub ranged_rising : length shortfalls ≡ IDS → Rising periods shortfalls
-  ranged_rising size = record {
-    size = size;
-    period = λ i k l. period_is (get_or periods i 0) (in_range_from _ (row_ranged i k l)).period;
-    below = λ i k. omega (arith, owes_less (unplaced periods bounds shortfalls) h i k, ap (λ (e : Entry). e.shortfall) (row_at_lem periods bounds shortfalls i k));
-  }
+  -- and a shortfall that can rise stays in its type.
+  pub rising_fits : (w : ℕ) → w ≡ weight (entry_of es i) → (entry_of es i).shortfall + w < 65536
+  rising_fits w e = omega (arith, owes_less es h i k, e, weight_le (entry_of es i).period)
 
 -- No more have no room than were looked at.
-pub scanned_few : (es : List Entry) (urgent least pressed n : ℕ) → Scanned es urgent least pressed n → pressed ≤ n
+pub scanned_few : (es : List Entry) (urgent : Answer ℕ) (least pressed n : ℕ) → Scanned es urgent least pressed n → pressed ≤ n
 scanned_few es urgent least pressed n s = omega (arith, s.counted, count_most (is_pressed es) n)
 
--- The scan, over columns.
-module _ (periods bounds shortfalls : List ℕ) (h : entries_in_range (unplaced periods bounds shortfalls) ≡ true) where
-  pub scanned_none : Scanned (unplaced periods bounds shortfalls) IDS 65535 0 0
+-- The scan, one id after the other.
+module _ (es : List Entry) (h : entries_in_range es ≡ true) where
+  pub scanned_none : Scanned es None 65535 0 0
   unfolding count
-  scanned_none = record { inside = omega arith; best = best_start (unplaced periods bounds shortfalls); counted = refl }
+  scanned_none = record { inside = omega arith; best = best_start es; counted = refl }
 
-  module _ (n urgent least pressed : ℕ) (k : n < IDS) (s : Scanned (unplaced periods bounds shortfalls) urgent least pressed n) where
+  module _ (n : ℕ) (urgent : Answer ℕ) (least pressed : ℕ) (k : n < IDS) (s : Scanned es urgent least pressed n) where
     -- An id that is not listed leaves it.
-    pub scanned_unlisted : get_or periods n 0 ≤ 0 → Scanned (unplaced periods bounds shortfalls) urgent least pressed (n + 1)
-    scanned_unlisted z =
-        let es = unplaced periods bounds shortfalls in
-        let u : is_listed (entry_of es n) ≡ false = ap is_listed (row_at_lem periods bounds shortfalls n k) ∙ le-ltb 0 (get_or periods n 0) z in
-        record { inside = omega arith; best = best_unlisted es n urgent least u s.best; counted = s.counted ∙ sym (pressed_unlisted es n u) }
+    pub scanned_unlisted : is_listed (entry_of es n) ≡ false → Scanned es urgent least pressed (n + 1)
+    scanned_unlisted u =
+        record { inside = omega arith; best = best_unlisted es n least urgent u s.best; counted = s.counted ∙ sym (pressed_unlisted es n u) }
 
     -- A listed one takes the place of the most urgent if it has less room, and counts if it has none.
-    pub scanned_listed : 0 < get_or periods n 0 → (r : ℕ) → r ≡ room_of (get_or periods n 0) (get_or bounds n 0) (get_or shortfalls n 0) → (v m : ℕ)
-        → Beside r least n urgent v m → (c : ℕ)
-        → ((r ≡ 0) × (c ≡ pressed + 1)) ⊎ ((r ≢ 0) × (c ≡ pressed)) → Scanned (unplaced periods bounds shortfalls) v m c (n + 1)
-    scanned_listed z r q v m w c x = record { inside = omega arith; best = better w; counted = more x }
+    pub scanned_listed : is_listed (entry_of es n) ≡ true → (r : ℕ) → r ≡ room (entry_of es n) → (v : Answer ℕ) (m : ℕ) → Beside r least n urgent v m → (c : ℕ)
+        → ((r ≡ 0) × (c ≡ pressed + 1)) ⊎ ((r ≢ 0) × (c ≡ pressed)) → Scanned es v m c (n + 1)
+    scanned_listed l r q v m w c x = record { inside = omega arith; best = better w; counted = more x }
       where
-        es : List Entry
-        es = unplaced periods bounds shortfalls
-
-        listed : is_listed (entry_of es n) ≡ true
-        listed = ap is_listed (row_at_lem periods bounds shortfalls n k) ∙ lt-ltb 0 (get_or periods n 0) z
-
-        is_room : r ≡ room (entry_of es n)
-        is_room = q ∙ ap room (sym (row_at_lem periods bounds shortfalls n k))
-
         small : r < 65535
-        small =
-            let e : Entry = record { period = get_or periods n 0; offset = 0; bound = get_or bounds n 0; shortfall = get_or shortfalls n 0 } in
-            omega (arith, q, room_below e (row_ranged periods bounds shortfalls h n k z))
+        small = omega (arith, q, room_below (entry_of es n) (entry_range es n h k l))
 
-        better : Beside r least n urgent v m → Best (unplaced periods bounds shortfalls) (n + 1) v m
-        better (inl y) = rw (y.1, y.2) (best_less es n urgent least listed r is_room k y.0 s.best)
-        better (inr y) = rw (y.1, y.2) (best_kept es n urgent least listed r is_room small y.0 s.best)
+        better : Beside r least n urgent v m → Best es (n + 1) v m
+        better (inl y) = rw (y.1, y.2) (best_less es n least l r q urgent k y.0 s.best)
+        better (inr y) = rw (y.1, y.2) (best_kept es n least l r q urgent small y.0 s.best)
 
-        more : ((r ≡ 0) × (c ≡ pressed + 1)) ⊎ ((r ≢ 0) × (c ≡ pressed)) → c ≡ pressed_below (unplaced periods bounds shortfalls) (n + 1)
-        more (inl y) = y.1 ∙ ap (λ (x : ℕ). x + 1) s.counted ∙ sym (pressed_none es n listed r is_room y.0)
-        more (inr y) = y.1 ∙ s.counted ∙ sym (pressed_room es n r is_room y.0)
+        more : ((r ≡ 0) × (c ≡ pressed + 1)) ⊎ ((r ≢ 0) × (c ≡ pressed)) → c ≡ pressed_below es (n + 1)
+        more (inl y) = y.1 ∙ ap (λ (x : ℕ). x + 1) s.counted ∙ sym (pressed_none es n l r q y.0)
+        more (inr y) = y.1 ∙ s.counted ∙ sym (pressed_room es n r q y.0)
 
 -- ---- the weights
 
--- The entries over a slot are those of the shortfalls over it.
-over_columns : (periods bounds shortfalls after : List ℕ) (u : ℕ) → OverSlot periods u shortfalls after
-    → unplaced periods bounds after ≡ over_all (unplaced periods bounds shortfalls) u
-over_columns periods bounds shortfalls after u o =
-    columns_are periods (replicate IDS 0) bounds after (over_all es u) (length_over es u ∙ size)
-    (λ i k.
-    ap (λ (s : ℕ). record { period = get_or periods i 0; offset = get_or (replicate IDS 0) i 0; bound = get_or bounds i 0; shortfall = s }) (o.each i k)
-    ∙ sym (over_at_lem es u size i k ∙ ap (over_entry (eqb i u)) (columns_at periods (replicate IDS 0) bounds shortfalls i k)))
-  where
-    es : List Entry
-    es = unplaced periods bounds shortfalls
-
-    size : length es ≡ IDS
-    size = length_columns periods (replicate IDS 0) bounds shortfalls
-
--- A shortfall that can rise stays in its type.
-pub rising_fits : (periods shortfalls : List ℕ) → Rising periods shortfalls → (i : ℕ) → i < IDS → (w : ℕ) → w ≡ weight_of (get_or periods i 0)
-    → get_or shortfalls i 0 + w < 65536
-rising_fits periods shortfalls r i k w e = omega (arith, r.below i k, e, weight_le (get_or periods i 0))
-
 -- Every shortfall below id has risen by its weight, and the others are as they were.
-pub record Risen (periods start shortfalls : List ℕ) (id : ℕ) : Type 0 where
+pub record Risen (start es : List Entry) (id : ℕ) : Type 0 where
   pub inside : id ≤ IDS
-  pub size : length shortfalls ≡ IDS
-  pub below : (i : ℕ) → i < id → get_or shortfalls i 0 ≡ get_or start i 0 + weight_of (get_or periods i 0)
-  pub above : (i : ℕ) → id ≤ i → get_or shortfalls i 0 ≡ get_or start i 0
+  pub size : length es ≡ IDS
+  pub below : (i : ℕ) → i < id → entry_of es i ≡ over_entry false (entry_of start i)
+  pub above : (i : ℕ) → id ≤ i → entry_of es i ≡ entry_of start i
 
-pub risen_none : (periods start : List ℕ) → length start ≡ IDS → Risen periods start start 0
-risen_none periods start l = record { inside = omega arith; size = l; below = λ i k. absurd (omega arith); above = λ i k. refl }
+pub risen_none : (start : List Entry) → length start ≡ IDS → Risen start start 0
+risen_none start l = record { inside = omega arith; size = l; below = λ i k. absurd (omega arith); above = λ i k. refl }
 
--- The next can rise.
-pub risen_fits : (periods start shortfalls : List ℕ) → Rising periods start → (id : ℕ) → Risen periods start shortfalls id → id < IDS → (w : ℕ)
-    → w ≡ weight_of (get_or periods id 0) → get_or shortfalls id 0 + w < 65536
-risen_fits periods start shortfalls r id h k w e = omega (arith, rising_fits periods start r id k w e, h.above id (omega arith))
+module _ (start es : List Entry) (h : entries_in_range start ≡ true) (id : ℕ) (r : Risen start es id) (k : id < IDS) where
+  -- The next has a period, if it is listed, and can rise.
+  pub risen_weighed : 0 < (entry_of es id).period → is_period (entry_of es id).period ≡ true
+  risen_weighed l =
+      let e = ap (λ (x : Entry). x.period) (r.above id (omega arith)) in
+      ap is_period e ∙ weighed start h id k (omega (arith, l, e))
+
+  pub risen_fits : (w : ℕ) → w ≡ weight (entry_of es id) → (entry_of es id).shortfall + w < 65536
+  risen_fits w e =
+      let z = r.above id (omega arith) in
+      omega (arith, ap (λ (x : Entry). x.shortfall) z, rising_fits start h id k w (e ∙ ap (λ (x : Entry). weight x) z))
 
 -- One more rises.
-pub risen_next : (periods start shortfalls : List ℕ) (id : ℕ) → id < IDS → Risen periods start shortfalls id → (w s : ℕ)
-    → w ≡ weight_of (get_or periods id 0) → s ≡ over_slot false w (get_or shortfalls id 0) → Risen periods start (set shortfalls id s) (id + 1)
-unfolding over_slot
-risen_next periods start shortfalls id k h w s p q = record {
+pub risen_next : (start es : List Entry) (id : ℕ) → id < IDS → Risen start es id → (w s : ℕ) → w ≡ weight (entry_of es id)
+    → s ≡ over_slot false w (entry_of es id).shortfall → Risen start (set es id (with_shortfall s (entry_of es id))) (id + 1)
+risen_next start es id k h w s p q = record {
   inside = omega arith;
-  size = length-set shortfalls id s ∙ h.size;
+  size = length-set es id (with_shortfall s (entry_of es id)) ∙ h.size;
   below = λ i l. at i l (ℕ_discrete i id);
-  above = λ i l. get_or-set_other shortfalls id i s 0 (omega arith) ∙ h.above i (omega arith);
+  above = λ i l. get_or-set_other es id i (with_shortfall s (entry_of es id)) no_entry (omega arith) ∙ h.above i (omega arith);
 }
   where
-    at : (i : ℕ) → i < id + 1 → Dec (i ≡ id) → get_or (set shortfalls id s) i 0 ≡ get_or start i 0 + weight_of (get_or periods i 0)
-    at i l (yes e) = rw (e, get_or-set_same shortfalls id s 0 (omega (arith, h.size))) (omega (arith, p, q, h.above id (omega arith)))
-    at i l (no e) = get_or-set_other shortfalls id i s 0 e ∙ h.below i (omega arith)
+    at : (i : ℕ) → i < id + 1 → Dec (i ≡ id) → entry_of (set es id (with_shortfall s (entry_of es id))) i ≡ over_entry false (entry_of start i)
+    at i l (yes e) =
+        rw (e, get_or-set_same es id (with_shortfall s (entry_of es id)) no_entry (omega (arith, h.size)))
+        (ap (λ (x : ℕ). with_shortfall x (entry_of es id)) (q ∙ ap (λ (x : ℕ). over_slot false x (entry_of es id).shortfall) p)
+        ∙ ap (over_entry false) (h.above id (omega arith)))
+    at i l (no e) = get_or-set_other es id i (with_shortfall s (entry_of es id)) no_entry e ∙ h.below i (omega arith)
 
 -- All have, and the owner's is paid.
-pub risen_paid : (periods start shortfalls : List ℕ) (id u : ℕ) → IDS ≤ id → Risen periods start shortfalls id → (w s : ℕ)
-    → w ≡ weight_of (get_or periods u 0) → s ≡ over_slot true w (get_or start u 0) → OverSlot periods u start (set shortfalls u s)
-unfolding over_slot
-risen_paid periods start shortfalls id u k h w s p q = record { size = length-set shortfalls u s ∙ h.size; each = λ i l. at i l (ℕ_discrete i u) }
+pub risen_paid : (start es : List Entry) (id u : ℕ) → length start ≡ IDS → IDS ≤ id → Risen start es id → (w s : ℕ) → w ≡ weight (entry_of start u)
+    → s ≡ over_slot true w (entry_of start u).shortfall → set es u (with_shortfall s (entry_of es u)) ≡ over_all start u
+risen_paid start es id u size k h w s p q =
+    ext_get_or no_entry _ _ (length-set es u (with_shortfall s (entry_of es u)) ∙ h.size ∙ sym (length_over start u ∙ size))
+    (λ i l. let j : i < IDS = omega (arith, length-set es u (with_shortfall s (entry_of es u)), h.size) in at i j (ℕ_discrete i u) ∙ sym (over_at_lem start u size i j))
   where
-    at : (i : ℕ) → i < IDS → Dec (i ≡ u) → get_or (set shortfalls u s) i 0 ≡ over_slot (eqb i u) (weight_of (get_or periods i 0)) (get_or start i 0)
+    risen : (i : ℕ) → i < IDS → entry_of es i ≡ over_entry false (entry_of start i)
+    risen i l = h.below i (omega (arith, h.inside))
+
+    at : (i : ℕ) → i < IDS → Dec (i ≡ u) → entry_of (set es u (with_shortfall s (entry_of es u))) i ≡ over_entry (eqb i u) (entry_of start i)
     at i l (yes e) =
-        rw (e, get_or-set_same shortfalls u s 0 (omega (arith, h.size, h.inside)), eq-eqb u u refl)
-        (q ∙ ap (λ (x : ℕ). over_slot true x (get_or start u 0)) p)
-    at i l (no e) = rw (get_or-set_other shortfalls u i s 0 e, ne_eqb i u e) (h.below i (omega arith))
+        rw (← e, get_or-set_same es i (with_shortfall s (entry_of es i)) no_entry (omega (arith, h.size)), eq-eqb i i refl)
+        (ap (with_shortfall s) (risen i l)
+        ∙ ap (λ (x : ℕ). with_shortfall x (entry_of start i))
+        (q ∙ ap (λ (x : ℕ). over_slot true x (entry_of start u).shortfall) p ∙ ap (λ (x : ℕ). over_slot true (weight (entry_of start x)) (entry_of start x).shortfall) (sym e)))
+    at i l (no e) = rw (get_or-set_other es u i (with_shortfall s (entry_of es u)) no_entry e, ne_eqb i u e) (risen i l)
 
 -- ---- the plan that follows
 
-module _ (owners periods bounds shortfalls : List ℕ) (n : ℕ) where
+module _ (plan : Plan) (n : ℕ) where
   -- The code's answer where nobody gets the slot,
-  pub next_nobody : owner_of (unplaced periods bounds shortfalls) ≡ Nobody
-      → (false, plan_of owners periods bounds shortfalls) ≡ next_of (plan_of owners periods bounds shortfalls) (longer n (plan_of owners periods bounds shortfalls))
+  pub next_nobody : owner_of plan.entries ≡ None → (false, plan) ≡ next_of plan (longer n plan)
   unfolding next_of
-  next_nobody h = sym (ap (next_of (plan_of owners periods bounds shortfalls)) (owner_nobody n (plan_of owners periods bounds shortfalls) h))
+  next_nobody h = sym (ap (next_of plan) (owner_nobody n plan h))
 
   -- and where somebody does.
-  pub next_given : (u : ℕ) → owner_of (unplaced periods bounds shortfalls) ≡ Id u → (after : List ℕ) → OverSlot periods u shortfalls after
-      → (true, plan_of (set owners n u) periods bounds after) ≡ next_of (plan_of owners periods bounds shortfalls) (longer n (plan_of owners periods bounds shortfalls))
+  pub next_given : (u : ℕ) → owner_of plan.entries ≡ Some u
+      → (true, record { owners = set plan.owners n u; entries = over_all plan.entries u }) ≡ next_of plan (longer n plan)
   unfolding next_of
-  next_given u h after o =
-      ap (λ (es : List Entry). (true, record { owners = set owners n u; entries = es })) (over_columns periods bounds shortfalls after u o)
-      ∙ sym (ap (next_of (plan_of owners periods bounds shortfalls)) (owner_id n (plan_of owners periods bounds shortfalls) u h).1)
+  next_given u h = sym (ap (next_of plan) (owner_id n plan u h).1)

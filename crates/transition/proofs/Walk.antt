@@ -20,7 +20,7 @@ use Rattle.timetable.specs.declared.Entry.{Entry}
 use Rattle.timetable.specs.Timetable.{entry_of, is_listed, weight, with_shortfall, transition_shortfall}
 use Rattle.transition.proofs.Plans.{Fit, Step, Longer, longer_told, over_at_lem}
 use Rattle.transition.proofs.Reach.{onward, reach_last, reach_fit}
-use Rattle.transition.specs.Plan.{Plan}
+use Rattle.transition.specs.declared.Plan.{Plan}
 use Rattle.transition.specs.Reach.{reach_from, reach}
 use Rattle.transition.specs.Transition.{longer, over_entry}
 

@@ -10,7 +10,7 @@ use Rattle.slots.specs.Shortfall.{over_slot}
 use Rattle.slots.specs.Slots.{is_owner}
 use Rattle.timetable.specs.declared.Entry.{Entry}
 use Rattle.timetable.specs.Timetable.{entry_of, weight}
-use Rattle.transition.specs.Plan.{Plan}
+use Rattle.transition.specs.declared.Plan.{Plan}
 use Rattle.transition.specs.Transition.{longer}
 
 -- Helper of reach: the plan after k more transition slots by the urgent rule, the first of them number n; none where one was missed.

@@ -9,7 +9,8 @@ use Rattle.timetable.specs.declared.Entry.{Entry}
 use Rattle.timetable.specs.Timetable.{entry_of, is_listed, weight, room, each, with_shortfall}
 use Rattle.transition.specs.declared.Ending.{Ending}
 use Rattle.transition.specs.declared.Ending.TheVariants.{Found, Missed, Exhausted}
-use Rattle.transition.specs.Plan.{Plan, Searched}
+use Rattle.transition.specs.declared.Plan.{Plan}
+use Rattle.transition.specs.Plan.{Searched}
 
 -- A listed id n beside the most urgent one below it: it is more urgent if it has less room, ties to the lower id.
 unfoldable pub more_urgent : List Entry → ℕ → Option ℕ → Option ℕ

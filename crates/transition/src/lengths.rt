@@ -1,57 +1,61 @@
 // The search of lengths: each is searched for a cyclic placement, and the first that has one is the answer. Nothing is refused: the miss or exhaustion is answered.
-ghost use Rattle.std.specs.Prelude.{length, ◌≡◌, ◌≤◌};
-ghost use Rattle.slots.specs.Limits.{IDS, LONGEST};
-ghost use Rattle.timetable.specs.Columns.{from_columns};
-ghost use Rattle.transition.specs.Coded.{plan_of, Ready};
+ghost use Rattle.std.specs.Prelude.{◌≡◌, ◌≤◌};
+ghost use Rattle.placement.specs.Placed.{Listing, Ranked};
+ghost use Rattle.placement.specs.Placement.{placement};
+ghost use Rattle.slots.specs.Limits.{LONGEST};
+ghost use Rattle.transition.specs.Coded.{settled_of, Ready};
 ghost use Rattle.transition.specs.Transition.{search_from};
 
-use crate::{Ending, SearchEnd, step};
-use placement::ranks;
-use timetable::Timetable;
+use crate::{Ending, Plan, SearchEnd};
+use placement::Order;
 
-// The search of lengths 0, 1, 2 and so on up to the limit, from the plan of length 0, over columns: its shortfalls and owners become those of the plan with which the search ended. (Public for the change alone.)
-pub fn search(
-    periods: &[u16; Timetable::IDS],
-    bounds: &[u8; Timetable::IDS],
-    shortfalls: &mut [u16; Timetable::IDS],
-    owners: &mut [u8; Timetable::LONGEST],
-    limit: u8,
-) -> SearchEnd
-    requires shortfalls_len { (length shortfalls.old ≡ IDS) × (length owners.old ≡ LONGEST) × (limit ≤ LONGEST) }
-    requires ready { Ready (plan_of owners.old periods.now bounds.now shortfalls.old) }
-    ensures { search_from limit 0 (plan_of owners.old periods.now bounds.now shortfalls.old) ≡ record { ending = result.ending; tries = result.tries; plan = record { owners = owners.new; entries = from_columns periods.now result.offsets bounds.now shortfalls.new } } }
-{
-    let mut order = [0; Timetable::IDS];
-    let count = ranks::list(periods, &mut order);
-    let mut n: u8 = 0;
-    let mut tries: u8 = 0;
-    let end = loop {
-        ranks::reorder(&mut order, count, periods, bounds, shortfalls);
-        let placed = placement::place(&order, count);
-        let offsets = placed.offsets;
-        tries += 1;
-        if placed.found {
-            break SearchEnd {
-                ending: Ending::Found(n),
-                tries,
-                offsets,
-            };
+impl Plan {
+    // The search of lengths 0, 1, 2 and so on up to the limit: the plan becomes the one with which the search ended, with the offsets placed where it ended well.
+    pub fn search(&mut self, limit: u8) -> SearchEnd
+        requires size { limit ≤ LONGEST }
+        requires ready { Ready self.old }
+        ensures { search_from limit 0 self.old ≡ record { ending = result.ending; tries = result.tries; plan = self.new } }
+    {
+        let mut order = Order::of(&self.entries);
+        for n in 0..limit {
+            if self.place(&mut order) {
+                return SearchEnd {
+                    ending: Ending::Found(n),
+                    tries: n + 1,
+                };
+            }
+            if !self.longer(n) {
+                return SearchEnd {
+                    ending: Ending::Missed(n),
+                    tries: n + 1,
+                };
+            }
         }
-        if n == limit {
-            break SearchEnd {
-                ending: Ending::Exhausted(n),
-                tries,
-                offsets,
-            };
+        let ending = if self.place(&mut order) {
+            Ending::Found(limit)
+        } else {
+            Ending::Exhausted(limit)
+        };
+        SearchEnd {
+            ending,
+            tries: limit + 1,
         }
-        if !step::longer(periods, bounds, shortfalls, owners, n) {
-            break SearchEnd {
-                ending: Ending::Missed(n),
-                tries,
-                offsets,
-            };
+    }
+
+    // Places the listed ids, whatever order they stand in, where there is a placement, and says whether there is one. The order becomes theirs.
+    fn place(&mut self, order: &mut Order) -> bool
+        requires listing { Listing self.old.entries order.old.ranks order.old.count }
+        requires ready { Ready self.old }
+        ensures ranked { Ranked self.old.entries order.new.ranks order.new.count }
+        ensures settled { (result, self.new) ≡ settled_of self.old (placement self.old.entries) }
+    {
+        order.reorder(&self.entries);
+        let Some(offsets) = order.place() else {
+            return false;
+        };
+        for (id, e) in self.entries.iter_mut().enumerate() {
+            e.offset = offsets[id];
         }
-        n += 1;
-    };
-    end
+        true
+    }
 }

@@ -1,10 +1,17 @@
 // The transition: rules 2 and 3, docs/RULES.md 4.2 and 4.3. Lengths are searched one after the other; each further slot goes to the most urgent. Nothing here is refused.
 #![tactic(auto)]
 
-use timetable::Timetable;
+use timetable::{Entry, Timetable};
 
-pub mod lengths; // lengths.rt: the search of lengths
+mod lengths; // lengths.rt: the search of lengths
 mod step; // step.rt: one more transition slot
+
+// What a length has reached: the owners of the transition slots so far, and each id's entry with its shortfall there.
+#[derive(Clone, Copy)]
+pub struct Plan {
+    pub owners: [u8; Timetable::LONGEST],
+    pub entries: [Entry; Timetable::IDS],
+}
 
 // How the search of lengths ended.
 #[derive(Clone, Copy)]
@@ -17,17 +24,9 @@ pub enum Ending {
     Exhausted(u8),
 }
 
-// The ending, the number of lengths searched, and the offsets placed, by id: all zero where the search did not end well.
+// The ending, and the number of lengths searched.
 #[derive(Clone, Copy)]
 pub struct SearchEnd {
     pub ending: Ending,
     pub tries: u8,
-    pub offsets: [u8; Timetable::IDS],
-}
-
-// Whom one more slot goes to, or that it goes to nobody.
-#[derive(Clone, Copy)]
-pub enum Urgent {
-    Id(usize),
-    Nobody,
 }
