@@ -2,7 +2,7 @@
 -- exactly if its own slot is, so the table of taken slots tells the largest free offset. Assumes nothing.
 use lib.Dec.{eqb}
 use lib.ListN.{drop, get_or, get_or-replicate, length, length-replicate, length-set, replicate, set, take}
-use lib.Seq.{drop-cons, get_or-set_other, get_or-set_same, get_or-take, length-take-le}
+use lib.Seq.{drop-cons, get_or-set_other, get_or-set_same}
 use mathlib.Core.Bool.{Bool, true, false, cond, not, ◌||◌}
 use mathlib.Core.List.{List, [], ◌∷◌, map}
 use mathlib.Core.Logic.{inl, inr}
@@ -22,7 +22,7 @@ use Rattle.placement.proofs.Table.{clear_below}
 use Rattle.std.specs.Prelude.{Option as Answer, Some, None}
 use Rattle.placement.specs.Placed.{answer_of, demand_at, demands_of, offsets_of, placed_of, InOrderOfSome, Ranked, Says, last_clear, Finds, TakenToo}
 use Rattle.placement.specs.Placement.{Demand, Place, is_taken, all_free, last_free, place_from, placement, settle}
-use Rattle.slots.proofs.Below.{every_all, every_not, true_false}
+use Rattle.slots.proofs.Below.{every_all, every_not}
 use Rattle.slots.specs.Limits.{IDS, WHOLE}
 use Rattle.timetable.proofs.Ranges.{Period, period_dvd, period_is, period_le, period_pos}
 use Rattle.timetable.specs.declared.Entry.{Entry}

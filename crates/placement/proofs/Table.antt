@@ -1,17 +1,14 @@
 -- What the table of taken slots says once the slots of an offset are marked, word after word, and what the search of it for a free slot finds.
 -- Assumes nothing.
-use borrow.Author.Tests.{le-leb, lt-leb, ne_eqb, not-false, not-true}
-use lib.Bits.{bit_or}
+use borrow.Author.Tests.{le-leb, lt-leb, not-false, not-true}
 use lib.Count.{count_leading_zeros}
-use lib.Dec.{eqb, leb}
+use lib.Dec.{eqb}
 use lib.ListN.{get_or}
-use lib.Pow.{pow_mono}
-use mathlib.Core.Bool.{Bool, true, false, ◌&&◌, ◌||◌, or-false}
+use mathlib.Core.Bool.{Bool, true, false, ◌||◌}
 use mathlib.Core.List.{List}
-use mathlib.Core.Logic.{◌⊎◌, inl, inr}
-use mathlib.Core.Path.{◌≡◌, refl, sym, ap, ap₂, ◌∙◌, subst}
-use native.Mathlib.Decide.{dec_le, dec_lt}
-use native.Mathlib.Nat.{add-suc, add-zero, div-add-mod', mod-eq_of_lt, mod-le, mod-lt, mul-add-mod_self_right, mul_assoc, mul_comm, pow-suc, suc-mul}
+use mathlib.Core.Path.{◌≡◌, refl, sym, ap, ◌∙◌, subst}
+use native.Mathlib.Decide.{dec_le}
+use native.Mathlib.Nat.{add-suc, add-zero}
 use native.Mathlib.Numerals.{add-one}
 use native.Mathlib.Omega.{arith}
 use Prim.Native.Nat.{ℕ, zero, suc, ◌+◌, ◌-◌, ◌*◌, ◌/◌, ◌%◌, ◌^◌, ◌≤◌, ◌<◌}
@@ -20,10 +17,9 @@ use Rattle.placement.specs.Placed.{Says, last_clear, Finds, TakenToo}
 use Rattle.placement.specs.Placement.{Place, is_taken}
 use Rattle.slots.proofs.Below.{true_false}
 use Rattle.slots.specs.Limits.{WHOLE}
-use Rattle.timetable.proofs.Bits.{Highest, highest, set_none, set_not, set_one, set_or, set_shift}
+use Rattle.timetable.proofs.Bits.{Highest, highest, set_none, set_not, set_shift}
 use Rattle.timetable.proofs.Marks.{Marked}
-use Rattle.timetable.proofs.Ranges.{Period}
-use Rattle.timetable.specs.Marks.{WORD, WORDS, Marks, is_marked, is_set, AreSlots, FreeUpTo}
+use Rattle.timetable.specs.Marks.{WORD, WORDS, Marks, is_marked, is_set, FreeUpTo}
 
 -- ---- the highest free slot of a word
 

@@ -29,7 +29,7 @@ use Rattle.transition.specs.declared.Ending.{Ending}
 use Rattle.transition.specs.declared.Ending.TheVariants.{Found, Missed, Exhausted}
 use Rattle.transition.specs.declared.Plan.{Plan}
 use Rattle.transition.specs.Plan.{Searched}
-use Rattle.transition.specs.Transition.{over_all, longer, ended, passed, placed, search_from}
+use Rattle.transition.specs.Transition.{longer, ended, passed, placed, search_from}
 
 -- ---- the code's answers
 

@@ -1,6 +1,6 @@
 -- One more transition slot as the code finds it: the most urgent id one id at a time, a missed slot by one id that cannot bear it, and the plan that follows.
 -- Assumes nothing.
-use borrow.Author.Tests.{lt-ltb, le-ltb, eq-eqb, ne_eqb, eqb-true}
+use borrow.Author.Tests.{lt-ltb, eq-eqb, ne_eqb, eqb-true}
 use lib.Dec.{eqb}
 use lib.ListN.{length, length-set, set}
 use lib.Seq.{ext_get_or, get_or-set_same, get_or-set_other}

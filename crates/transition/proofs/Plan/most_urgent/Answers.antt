@@ -1,5 +1,4 @@
 -- `most_urgent` meets its contract. The loop's invariant: of the ids below id the most urgent and its room are known, and how many have none. Assumes nothing.
-use borrow.Author.Tests.{ltb-true}
 use mathlib.Core.Logic.{inl, inr}
 use mathlib.Core.Path.{sym, ◌∙◌}
 use native.Mathlib.Omega.{arith}

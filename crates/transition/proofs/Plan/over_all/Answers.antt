@@ -2,11 +2,10 @@
 use borrow.Author.Rules.{rules}
 use lib.ListN.{length}
 use mathlib.Core.List.{List}
-use mathlib.Core.Path.{◌≡◌, ap, sym, ◌∙◌}
+use mathlib.Core.Path.{◌≡◌, ap}
 use native.Mathlib.Omega.{arith}
 use Rattle.slots.specs.Limits.{IDS}
 use Rattle.timetable.specs.declared.Entry.{Entry}
-use Rattle.timetable.specs.Timetable.{weight}
 use Rattle.transition.proofs.StepLaws.{weighed, rising_fits, risen_weighed, risen_fits, risen_next, risen_paid}
 use Rattle.transition.specs.declared.Plan.{Plan}
 use Rattle.transition.proofs.Plan.over_all.Goals as goal

@@ -2,7 +2,7 @@
 -- the placement goes on from there with the rest. Assumes nothing.
 use mathlib.Core.Path.{sym, ap, ◌∙◌}
 use native.Mathlib.Omega.{arith}
-use Rattle.placement.proofs.Placing.{Next, turn_next, turn_last, reached_none, reached_fair, reached_stuck, reached_offset, reached_more, reached_all}
+use Rattle.placement.proofs.Placing.{turn_next, turn_last, reached_none, reached_fair, reached_stuck, reached_offset, reached_more, reached_all}
 use Rattle.timetable.specs.Sound.{is_period}
 use Rattle.placement.proofs.ranks.Order.place.Goals as goal
 

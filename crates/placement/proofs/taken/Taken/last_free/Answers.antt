@@ -5,7 +5,7 @@ use mathlib.Core.Path.{◌≡◌, refl}
 use native.Mathlib.Omega.{arith}
 use Prim.Native.Nat.{ℕ, ◌-◌, ◌≤◌}
 use Rattle.placement.proofs.Table.{passed_free, passed_word, passed_all}
-use Rattle.std.specs.Prelude.{Some, None}
+use Rattle.std.specs.Prelude.{Some}
 use Rattle.placement.specs.Placed.{Finds}
 use Rattle.timetable.specs.Marks.{WORD}
 use Rattle.placement.proofs.taken.Taken.last_free.Goals as goal

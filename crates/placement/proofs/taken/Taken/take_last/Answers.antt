@@ -1,7 +1,6 @@
 -- `take_last` meets its contract: an offset that is found is up to the last offset, and its slots are marked. Assumes nothing.
 use mathlib.Core.Path.{◌≡◌}
 use native.Mathlib.Omega.{arith}
-use Prim.Native.Nat.{ℕ}
 use Rattle.timetable.proofs.Ranges.{period_from, period_le}
 use Rattle.placement.proofs.taken.Taken.take_last.Goals as goal
 
