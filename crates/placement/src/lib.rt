@@ -8,7 +8,6 @@ use taken::Taken;
 use timetable::Timetable;
 
 mod ranks; // ranks.rt: the demands of the listed partitions, in order
-mod slot_bits; // slot_bits.rt: the slots of an offset in a word
 mod taken; // taken.rt: the slots that are taken
 
 pub use ranks::Order;

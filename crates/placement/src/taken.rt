@@ -5,7 +5,7 @@ ghost use Rattle.slots.specs.Limits.{WHOLE};
 ghost use Rattle.timetable.specs.Marks.{WORD, FreeUpTo};
 ghost use Rattle.timetable.specs.Sound.{is_period};
 
-use crate::slot_bits::{SlotBits, WORD, WORDS, slots_in_word, stride};
+use timetable::slot_bits::{SlotBits, WORD, WORDS, slots_in_word, stride};
 
 // Which slots of the cycle are taken.
 #[derive(Clone, Copy)]
