@@ -89,25 +89,6 @@ pub record Settling (start : List Entry) (offsets : List ℕ) (es : List Entry) 
   pub below : (i : ℕ) → i < id → entry_of es i ≡ with_offset (get_or offsets i 0) (entry_of start i)
   pub above : (i : ℕ) → id ≤ i → entry_of es i ≡ entry_of start i
 
-pub settling_none : (start : List Entry) (offsets : List ℕ) → length start ≡ IDS → Settling start offsets start 0
-settling_none start offsets l = record { inside = omega arith; size = l; below = λ i k. absurd (omega arith); above = λ i k. refl }
-
--- One more is put.
-pub settling_next : (start : List Entry) (offsets : List ℕ) (es : List Entry) (id : ℕ) → id < IDS → Settling start offsets es id
-    → Settling start offsets (set es id (with_offset (get_or offsets id 0) (entry_of es id))) (id + 1)
-settling_next start offsets es id k h = record {
-  inside = omega arith;
-  size = length-set es id (with_offset (get_or offsets id 0) (entry_of es id)) ∙ h.size;
-  below = λ i l. at i l (ℕ_discrete i id);
-  above = λ i l. get_or-set_other es id i (with_offset (get_or offsets id 0) (entry_of es id)) no_entry (omega arith) ∙ h.above i (omega arith);
-}
-  where
-    at : (i : ℕ) → i < id + 1 → Dec (i ≡ id) → entry_of (set es id (with_offset (get_or offsets id 0) (entry_of es id))) i ≡ with_offset (get_or offsets i 0) (entry_of start i)
-    at i l (yes e) =
-        rw (e, get_or-set_same es id (with_offset (get_or offsets id 0) (entry_of es id)) no_entry (omega (arith, h.size)))
-        (ap (with_offset (get_or offsets id 0)) (h.above id (omega arith)))
-    at i l (no e) = get_or-set_other es id i (with_offset (get_or offsets id 0) (entry_of es id)) no_entry e ∙ h.below i (omega arith)
-
 module _ (plan : Plan) (size : length plan.entries ≡ IDS) (ready : Ready plan) (ranks : List ℕ) (count : ℕ) (k : Ranked plan.entries ranks count)
     (a : Answer (List ℕ)) (e : a ≡ placed_of (demands_of ranks count)) where
   -- Where there is no placement the plan is as it was.

@@ -242,9 +242,6 @@ pub record Risen (start es : List Entry) (id : ℕ) : Type 0 where
   pub below : (i : ℕ) → i < id → entry_of es i ≡ over_entry false (entry_of start i)
   pub above : (i : ℕ) → id ≤ i → entry_of es i ≡ entry_of start i
 
-pub risen_none : (start : List Entry) → length start ≡ IDS → Risen start start 0
-risen_none start l = record { inside = omega arith; size = l; below = λ i k. absurd (omega arith); above = λ i k. refl }
-
 module _ (start es : List Entry) (h : entries_in_range start ≡ true) (id : ℕ) (r : Risen start es id) (k : id < IDS) where
   -- The next has a period, if it is listed, and can rise.
   pub risen_weighed : 0 < (entry_of es id).period → is_period (entry_of es id).period ≡ true
