@@ -10,9 +10,6 @@ overflow_sub-left c = omega (arith, (in_range_from c.args.self c.requires).bound
 pub overflow_sub-left-2 : goal.overflow_sub-left-2
 overflow_sub-left-2 c = omega (arith, room_left c.args.self c.requires)
 
-pub overflow_mul-result : goal.overflow_mul-result
-overflow_mul-result c = omega (arith, room_product c.args.self c.requires)
-
 pub overflow_cast-result-3 : goal.overflow_cast-result-3
 overflow_cast-result-3 c = omega (arith, room_small c.args.self c.requires)
 

@@ -76,17 +76,6 @@ phase-since-requires c =
     c.requires (listed c.args.self.period c.if-self-eq0.false) in
     period_is self.period (in_range_from self range).period
 
-pub overflow_cast-since : goal.overflow_cast-since
-overflow_cast-since c =
-    let self : Entry =
-    c.args.self in
-    let range : entry_in_range c.args.self ≡ true =
-    c.requires (listed c.args.self.period c.if-self-eq0.false) in
-    let n : ℕ =
-    c.args.n in
-    let r = in_range_from self range in
-    omega (arith, c.phase-since.ensures, mod-lt (n - self.offset - 1) {m = self.period} (omega (arith, r.inside)))
-
 pub overflow_mul-owed : goal.overflow_mul-owed
 overflow_mul-owed c =
     let self : Entry =

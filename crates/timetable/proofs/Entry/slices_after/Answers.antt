@@ -16,9 +16,6 @@ returns-then-n-offset c =
 pub nonzero_div-result : goal.nonzero_div-result
 nonzero_div-result c = omega (arith, (in_range_from c.args.self c.requires).inside)
 
-pub overflow_add-result : goal.overflow_add-result
-overflow_add-result c = let a = c.args in omega (arith, div-le_self (a.n - a.self.offset - 1) a.self.period)
-
 pub returns : goal.returns
 returns c =
     let a = c.args in

@@ -9,6 +9,7 @@ use Rattle.timetable.specs.Walk.{Fit}
 use Rattle.timetable.proofs.Timetable.is_sound.Goals as goal
 
 -- The length of a timetable that is placed.
+
 short : (t : Timetable) → placed t ≡ true → t.length ≤ LONGEST
 short t h = placed_length t.request.0 t.length t.base.0 h
 
@@ -19,9 +20,6 @@ pub returns-then-not-entries_fit : goal.returns-then-not-entries_fit
 returns-then-not-entries_fit c =
     let first = sym c.is_placed.ensures ∙ c.if-not-is_placed.false in
     sym (sound_fits c.args.self.now first (sym c.entries_fit.ensures.tells ∙ c.if-not-entries_fit.true))
-
-pub split_at-requires : goal.split_at-requires
-split_at-requires c = omega (arith, short c.args.self.now (sym c.is_placed.ensures ∙ c.if-not-is_placed.false))
 
 pub returns-then-not-owners_listed : goal.returns-then-not-owners_listed
 returns-then-not-owners_listed c =

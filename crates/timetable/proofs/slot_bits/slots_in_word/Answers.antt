@@ -6,15 +6,7 @@ use Rattle.timetable.proofs.slot_bits.slots_in_word.Goals as goal
 pub loop-reach-init : goal.loop-reach-init
 loop-reach-init c = reaches_first c.args.period c.args.offset c.requires
 
-pub loop-reach-smaller : goal.loop-reach-smaller
-loop-reach-smaller c = omega (arith, c.loop-reach.invariant.some)
-
 pub loop-reach-preserved : goal.loop-reach-preserved
 loop-reach-preserved c =
     let l = c.loop-reach in
     reaches_twice c.args.period c.args.offset c.requires l.slots l.reach l.invariant
-
-pub returns : goal.returns
-returns c =
-    let l = c.loop-reach in
-    reaches_all c.args.period c.args.offset c.requires l.slots l.reach c.loop-reach-test.false l.invariant

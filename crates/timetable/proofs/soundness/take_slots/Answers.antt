@@ -9,6 +9,7 @@ use Rattle.timetable.specs.Timetable.{is_listed}
 use Rattle.timetable.proofs.soundness.take_slots.Goals as goal
 
 -- What is known of an entry that is listed.
+
 own : (e : Entry) (r : Bool) → r ≡ is_listed e → r ≡ true → (is_listed e ≡ true → entry_in_range e ≡ true) → InRange e
 own e r q h f = in_range_from e (f (sym q ∙ h))
 
@@ -23,11 +24,6 @@ pub stride-word-step-requires : goal.stride-word-step-requires
 stride-word-step-requires c =
     period_le c.args.e.period (own c.args.e c.is_listed.result c.is_listed.ensures c.if-not-is_listed.false c.requires.e_value).period
 
-pub nonzero_div-word-step : goal.nonzero_div-word-step
-nonzero_div-word-step c =
-    let range = own c.args.e c.is_listed.result c.is_listed.ensures c.if-not-is_listed.false c.requires.e_value in
-    omega (arith, c.stride-word-step.ensures, range.inside)
-
 pub loop-word-init : goal.loop-word-init
 loop-word-init c =
     let range = own c.args.e c.is_listed.result c.is_listed.ensures c.if-not-is_listed.false c.requires.e_value in
@@ -40,11 +36,6 @@ returns-then-taken-word-ne0 c =
     let w = c.slots_in_word-slots in
     let a = c.args in
     taking_stops a.taken.now a.e range.period range.inside w.result w.ensures c.loop-word.taken c.loop-word.word c.loop-word-test.true c.loop-word.invariant (omega (arith, c.if-taken-word-ne0.true)) (search rules)
-
-pub loop-word-smaller : goal.loop-word-smaller
-loop-word-smaller c =
-    let range = own c.args.e c.is_listed.result c.is_listed.ensures c.if-not-is_listed.false c.requires.e_value in
-    omega (arith, range.inside, c.stride-word-step.ensures, c.loop-word-test.true)
 
 -- One word more is taken.
 taken_more : (before : Marks) (e : Entry) (range : InRange e) (bits : ℕ) → AreSlots e.period e.offset bits → (after : Marks) (word step : ℕ) → step ≡ stride e.period
