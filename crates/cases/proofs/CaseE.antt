@@ -22,7 +22,7 @@ use Rattle.numbers.specs.Numbers.{OUT_OF_RANGE, refusal}
 use Rattle.records.specs.Request.{no_asks, limit_field, read_listing, refused_request, with_listing, read_request}
 use Rattle.slots.specs.Clocks.{core_slot}
 use Rattle.timetable.specs.Timetable.{no_entry}
-use Rattle.transition.specs.Plan.{Plan}
+use Rattle.transition.specs.declared.Plan.{Plan}
 use Rattle.transition.specs.Transition.{search_from}
 
 -- T is read from the request.

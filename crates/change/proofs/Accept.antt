@@ -29,7 +29,7 @@ use Rattle.transition.proofs.Plans.{Fit}
 use Rattle.transition.proofs.Reach.{fit_reached}
 use Rattle.transition.proofs.Search.{PassedFirst}
 use Rattle.transition.proofs.Walk.{owners_stay, walk_agree, walked, walked_absent}
-use Rattle.transition.specs.Plan.{Plan}
+use Rattle.transition.specs.declared.Plan.{Plan}
 use Rattle.transition.specs.Reach.{reach}
 use Rattle.transition.specs.Transition.{placed}
 

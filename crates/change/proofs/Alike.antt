@@ -11,7 +11,8 @@ use Rattle.slots.specs.declared.CoreSlot.{CoreSlot}
 use Rattle.timetable.specs.declared.Timetable.{Timetable}
 use Rattle.transition.specs.declared.Ending.{Ending}
 use Rattle.transition.specs.declared.Ending.TheVariants.{Found, Missed, Exhausted}
-use Rattle.transition.specs.Plan.{Plan, Searched}
+use Rattle.transition.specs.declared.Plan.{Plan}
+use Rattle.transition.specs.Plan.{Searched}
 
 -- The answer of a search asks the request for its slot and its starts alone.
 pub same_slot : (t : Timetable) (q q' : Request) → q'.slot ≡ q.slot → start_plan t q' ≡ start_plan t q → (x : Searched) → answer_of t q' x ≡ answer_of t q x

@@ -33,7 +33,8 @@ use Rattle.timetable.specs.Timetable.{entry_of}
 use Rattle.transition.proofs.Plans.{Fit}
 use Rattle.transition.proofs.Reach.{reach_fit}
 use Rattle.transition.proofs.Search.{PassedFirst, Ended, found, missed, exhausted, search_ends}
-use Rattle.transition.specs.Plan.{Plan, Searched}
+use Rattle.transition.specs.declared.Plan.{Plan}
+use Rattle.transition.specs.Plan.{Searched}
 use Rattle.transition.specs.Reach.{reach}
 use Rattle.transition.specs.Transition.{longer, placed}
 

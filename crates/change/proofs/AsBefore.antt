@@ -35,7 +35,7 @@ use Rattle.timetable.specs.declared.Entry.{Entry}
 use Rattle.timetable.specs.declared.Timetable.{Timetable}
 use Rattle.timetable.specs.Timetable.{entry_of, is_listed, lists, shortfall_at}
 use Rattle.transition.proofs.RuleThreeLaws.{same_entries}
-use Rattle.transition.specs.Plan.{Plan}
+use Rattle.transition.specs.declared.Plan.{Plan}
 use Rattle.transition.specs.Transition.{search_from}
 
 -- An id enters with the same entry, whether its field is short or gives the bound that the short one asks.

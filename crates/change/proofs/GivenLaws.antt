@@ -38,7 +38,7 @@ use Rattle.transition.proofs.Reach.{fit_reached}
 use Rattle.transition.proofs.RuleThreeLaws.{longer_breaks, reach_rule, reach_walked}
 use Rattle.transition.proofs.Search.{PassedFirst, passed_here}
 use Rattle.transition.proofs.Walk.{owners_stay, walked_absent}
-use Rattle.transition.specs.Plan.{Plan}
+use Rattle.transition.specs.declared.Plan.{Plan}
 use Rattle.transition.specs.Reach.{AnyoneBreaks, reach}
 use Rattle.transition.specs.RuleThree.{walked_to}
 use Rattle.transition.specs.Transition.{longer, placed}

@@ -7,11 +7,10 @@ pub mod OneGiven
 pub mod Alike
 pub mod Raised
 pub mod AsBefore
-pub mod Granted
+pub mod Onward
 pub mod Histories
 pub mod StageSteps
 pub mod EnterLaws
-pub mod DecideLaws
 pub mod Passing
 pub mod QueryLaws
 pub mod QueriedLaws

@@ -1,6 +1,7 @@
 -- The answer from the verdicts of the stages, and what a request that passes them hands to the search. Assumes nothing.
 use mathlib.Core.Bool.{true, false}
 use mathlib.Core.List.{List}
+use mathlib.Core.Logic.{◌≢◌}
 use mathlib.Core.Path.{◌≡◌, refl, sym, ap, ◌∙◌, subst}
 use native.Mathlib.Decide.{ℕ_discrete}
 use native.Mathlib.Omega.{arith}
@@ -8,7 +9,6 @@ use Prim.Native.Nat.{ℕ, ◌≤◌, ◌<◌}
 use Rattle.change.proofs.Answers.{Admitted, accepted_continues, admitted, admitted_fit, Gets, refused, accepted, no_slot, no_length, gets, refusal_number, said}
 use Rattle.change.proofs.Stages.{first_tells}
 use Rattle.change.specs.Change.{start_plan, search_of, answer_of, refuse, answer_to, answer}
-use Rattle.change.specs.Columns.{FoundIn, HandsBack}
 use Rattle.change.specs.declared.Answer.{Answer}
 use Rattle.change.specs.Refused.{FirstStages, not_sound, sound, enough, whole, in_time}
 use Rattle.change.specs.Stages.{stages_first, stages_listed, verdict_before}
@@ -24,7 +24,7 @@ use Rattle.records.specs.declared.Reading.TheVariants.{Whole}
 use Rattle.records.specs.declared.ReadRequest.{ReadRequest}
 use Rattle.records.specs.Reads.{RequestRange}
 use Rattle.records.specs.Request.{read_request}
-use Rattle.slots.specs.Limits.{AREA, LONGEST}
+use Rattle.slots.specs.Limits.{AREA, LAST_SLOT, LONGEST}
 use Rattle.timetable.proofs.Sound.{ranged_is, sound_is}
 use Rattle.timetable.specs.declared.Timetable.{Timetable}
 use Rattle.timetable.specs.Sound.{is_sound}
@@ -32,7 +32,8 @@ use Rattle.transition.proofs.Search.{Ended, found, missed, exhausted, search_end
 use Rattle.transition.specs.Coded.{Ready}
 use Rattle.transition.specs.declared.Ending.{Ending}
 use Rattle.transition.specs.declared.Ending.TheVariants.{Found, Missed, Exhausted}
-use Rattle.transition.specs.Plan.{Plan, Searched}
+use Rattle.transition.specs.declared.Plan.{Plan}
+use Rattle.transition.specs.Plan.{Searched}
 use Rattle.transition.specs.Transition.{search_from}
 
 -- The length that an ending found.
@@ -65,7 +66,11 @@ goes_into t s area = at (answer t s area) (gets t s area)
     at a (no_slot e p k l b q h f) z = absurd (omega arith)
     at a (no_length e p b) z = absurd (omega arith)
 
--- A refusal hands back the timetable as given.
+-- An answer that is no acceptance hands back the timetable as given.
+abbrev pub HandsBack : Timetable → Answer → Type 0
+HandsBack t a = a.number ≢ ACCEPTED → a.timetable ≡ t
+
+-- So does every refusal.
 pub hands_back : (t : Timetable) (s : List ℕ) (area : ℕ) → HandsBack t (answer t s area)
 hands_back t s area = at (answer t s area) (gets t s area)
   where
@@ -151,7 +156,9 @@ module _ (t : Timetable) (s : List ℕ) (area : ℕ) (read : ReadRequest) (q : r
           let fit = admitted_fit t read.request area passes in
           subst Ready (sym p) (record { ranged = ranged_is (start_plan t read.request).entries fit.ranged; unplaced = fit.unplaced })
 
-      pub holds : (x : Searched) → x ≡ search_from read.request.limit 0 plan → FoundIn read.request.slot x.ending
+      -- A length that was found: the timetable can hold it and its base.
+      pub holds : (x : Searched) → x ≡ search_from read.request.limit 0 plan → (n : ℕ) → x.ending ≡ Found n
+          → (read.request.slot.0 ≤ LAST_SLOT) × (n ≤ LONGEST)
       unfolding length_of
       holds x h n k = (
         passes.range.slot,

@@ -57,15 +57,6 @@ unfolding entering
 enter_asked old start ask b s h p q =
     rw (lt-ltb 0 ask.period (omega (arith, h))) (λ i. record { period = ask.period; offset = 0; bound = p i; shortfall = q i })
 
--- ---- all entries
-
--- Once the shortfall of each id is put in, the list is that of the shortfalls.
-pub shortfalls_all : (es : List Entry) → length es ≡ IDS → (n : ℕ) (l : List ℕ) → IDS ≤ n → Filled (λ i. (entry_of es i).shortfall) n l → l ≡ shortfalls_of es
-unfolding shortfalls_of
-shortfalls_all es len n l a h =
-    ext_get_or 0 l (map (λ (e : Entry). e.shortfall) es) (h.count ∙ sym (length-map es (λ (e : Entry). e.shortfall) ∙ len))
-    (λ i k. h.below i (omega (arith, h.count)) ∙ sym (get_or-map (λ (e : Entry). e.shortfall) es i no_entry))
-
 -- ---- a stage that names an id
 
 module _ (number : ℕ) (test : ℕ → Bool) (n : ℕ) (e : first n test ≡ none) where

@@ -17,7 +17,8 @@ use Rattle.timetable.specs.declared.Entry.{Entry}
 use Rattle.timetable.specs.declared.Timetable.{Timetable}
 use Rattle.transition.specs.declared.Ending.{Ending}
 use Rattle.transition.specs.declared.Ending.TheVariants.{Found, Missed, Exhausted}
-use Rattle.transition.specs.Plan.{Plan, Searched}
+use Rattle.transition.specs.declared.Plan.{Plan}
+use Rattle.transition.specs.Plan.{Searched}
 use Rattle.transition.specs.Transition.{search_from}
 
 -- The number of an ending: accepted, a slot missed, or every length up to T searched in vain.

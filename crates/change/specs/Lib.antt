@@ -5,4 +5,5 @@ pub mod Given
 pub mod Queries
 pub mod Queried
 pub mod Controller
-pub mod Columns
+pub mod Told
+pub mod Periods

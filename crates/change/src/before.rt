@@ -1,81 +1,62 @@
 // The stages before the search, in the order of docs/RULES.md 7.2, once the timetable is known to be sound: a small area, the fields, then 6, 7 and 8. The lowest stage wins.
-ghost use Rattle.std.specs.Prelude.{length, true, List, ◌≡◌, ℕ, ◌-◌, ◌≤◌, ◌<◌};
-ghost use Rattle.change.specs.Columns.{Entered, entered_from};
-ghost use Rattle.change.specs.Stages.{asked_bound, bound_before, entering, is_behind, stage_overfull, stage_behind, stages_first, stages_listed};
+ghost use Rattle.std.specs.Prelude.{MatchResult, false, true, ◌≡◌, ◌≤◌};
+ghost use Rattle.change.specs.Periods.{ArePeriods};
+ghost use Rattle.change.specs.Stages.{asked_bound, bound_before, entering, is_behind, stage_behind, stage_overfull, stages_first, stages_listed, start_entries};
 ghost use Rattle.numbers.specs.Chain.{first_of};
-ghost use Rattle.slots.specs.Limits.{IDS};
-ghost use Rattle.timetable.specs.Columns.{ArePeriods, from_columns, unplaced};
-ghost use Rattle.timetable.specs.declared.Timetable.{Timetable};
-ghost use Rattle.timetable.specs.Sound.{entries_in_range, entry_in_range, is_sound};
-ghost use Rattle.timetable.specs.Timetable.{entry_of, is_listed, shortfall_after};
+ghost use Rattle.numbers.specs.declared.Verdict.TheVariants.{Passed, Refused};
+ghost use Rattle.numbers.specs.Numbers.{NOT_SOUND, refusal};
+ghost use Rattle.records.specs.Request.{read_request};
+ghost use Rattle.timetable.specs.Sound.{entry_in_range, is_sound};
+ghost use Rattle.timetable.specs.Timetable.{is_listed, shortfall_after};
 
-use numbers::{Refusal, Verdict};
-use records::{Ask, ReadRequest, Reading, Request};
-use slots::CoreSlot;
-use timetable::{Entry, Timetable, columns, weight_of};
+use numbers::Refusal;
+use records::read::read_request;
+use records::{Ask, Reading, Request};
+use timetable::{Entry, SoundTimetable, Timetable, weight_of};
 
-// The stages of a sound timetable that need no entries: 2, the fields and 6.
-pub fn verdict_first(base: CoreSlot, read: ReadRequest, area: usize) -> Verdict
-    ensures { (t : Timetable) → is_sound t ≡ true → t.base ≡ base → result ≡ first_of (stages_first t read area) }
+// The first stage: the timetable as one that is known to be sound.
+pub fn sound_stage<'a>(t: &'a Timetable) -> Result<SoundTimetable<'a>, Refusal>
+    ensures { MatchResult result (λ s. s.timetable.now ≡ t.now) (λ r. (is_sound t.now ≡ false) × (r ≡ refusal NOT_SOUND 0)) }
 {
-    if area < Timetable::AREA {
-        return Verdict::Refused(Refusal::of(Refusal::SMALL_AREA, 0));
-    }
-    let reading = read.reading;
-    if let Reading::Refused(r) = reading {
-        return Verdict::Refused(r);
-    }
-    let asked = read.request;
-    if asked.slot.0 < base.0 {
-        return Verdict::Refused(Refusal::of(Refusal::TOO_EARLY, 0));
-    }
-    Verdict::Passed
+    t.sound().ok_or(Refusal::of(Refusal::NOT_SOUND, 0))
 }
 
-// The entries at the request slot, from those at the base: each id's new period and bound, and its shortfall there, which is its start too.
-pub fn enter_all(
-    base: CoreSlot,
-    old_periods: &[u16; Timetable::IDS],
-    old_offsets: &[u8; Timetable::IDS],
-    old_bounds: &[u8; Timetable::IDS],
-    old_shortfalls: &[u16; Timetable::IDS],
-    asked: Request,
-    periods: &mut [u16; Timetable::IDS],
-    bounds: &mut [u8; Timetable::IDS],
-    shortfalls: &mut [u16; Timetable::IDS],
-    starts: &mut [u16; Timetable::IDS],
-)
-    requires old_shortfalls_value { (entries_in_range (from_columns old_periods.now old_offsets.now old_bounds.now old_shortfalls.now) ≡ true) × (base.0 ≤ asked.slot.0) }
-    requires periods_len { (length periods.old ≡ IDS) × (length bounds.old ≡ IDS) × (length shortfalls.old ≡ IDS) × (length starts.old ≡ IDS) }
-    ensures { Entered (entered_from (from_columns old_periods.now old_offsets.now old_bounds.now old_shortfalls.now) (asked.slot.0 - base.0) asked.asks) periods.new bounds.new shortfalls.new starts.new }
+// The stages of a sound timetable that need no entries, 2, the fields and 6, and the request that passed them.
+pub fn first_stages(t: SoundTimetable, request: &[u8], area: usize) -> Result<Request, Refusal>
+    ensures { MatchResult result (λ q. (first_of (stages_first t.entry.timetable.now (read_request request.now) area) ≡ Passed) × (q ≡ (read_request request.now).request))
+        (λ r. first_of (stages_first t.entry.timetable.now (read_request request.now) area) ≡ Refused r) }
 {
-    let elapsed = asked.slot.0 - base.0;
-    let mut id: usize = 0;
-    while id < Timetable::IDS {
-        let old = columns::row(old_periods, old_offsets, old_bounds, old_shortfalls, id);
-        let ask = asked.asks[id];
-        let e = enter(old, elapsed, ask);
-        periods[id] = e.period;
-        bounds[id] = e.bound;
-        shortfalls[id] = e.shortfall;
-        starts[id] = e.shortfall;
-        id += 1;
+    if area < Timetable::AREA {
+        return Err(Refusal::of(Refusal::SMALL_AREA, 0));
     }
+    let read = read_request(request);
+    if let Reading::Refused(r) = read.reading {
+        return Err(r);
+    }
+    let asked = read.request;
+    if asked.slot.0 < t.timetable.base.0 {
+        return Err(Refusal::of(Refusal::TOO_EARLY, 0));
+    }
+    Ok(asked)
+}
+
+// The entries at the request slot: each id enters with its new period and bound, and its shortfall there.
+pub fn start_entries(t: SoundTimetable, asked: &Request) -> [Entry; Timetable::IDS]
+    requires { t.timetable.now.base.0 ≤ asked.now.slot.0 }
+    ensures { result ≡ start_entries t.entry.timetable.now asked.now.slot asked.now.asks }
+{
+    let elapsed = asked.slot.0 - t.timetable.base.0;
+    let olds = &t.timetable.entries;
+    std::array::from_fn(|id| enter(olds[id], elapsed, asked.asks[id]))
 }
 
 // Stages 7 and 8, over the entries at the request slot.
-pub fn verdict_listed(
-    periods: &[u16; Timetable::IDS],
-    bounds: &[u8; Timetable::IDS],
-    shortfalls: &[u16; Timetable::IDS],
-) -> Verdict
-    requires { ArePeriods periods.now }
-    ensures { result ≡ first_of (stages_listed (unplaced periods.now bounds.now shortfalls.now)) }
+pub fn listed_stages(entries: &[Entry; Timetable::IDS]) -> Result<(), Refusal>
+    requires { ArePeriods entries.now }
+    ensures { MatchResult result (λ _. first_of (stages_listed entries.now) ≡ Passed) (λ r. first_of (stages_listed entries.now) ≡ Refused r) }
 {
-    if let Verdict::Refused(r) = overfull(periods) {
-        return Verdict::Refused(r);
-    }
-    behind(periods, bounds, shortfalls)
+    overfull(entries)?;
+    behind(entries)
 }
 
 // The entry with which an id enters the change, with the shortfall that it has: the new period and bound; none of these where it is not asked for.
@@ -116,56 +97,27 @@ fn bound_before(old: Entry) -> u8
 }
 
 // Stage 7: it names the id at which the running sum of the weights, ids rising, first passes 256.
-fn overfull(periods: &[u16; Timetable::IDS]) -> Verdict
-    requires { ArePeriods periods.now }
-    ensures { (bounds shortfalls : List ℕ) → result ≡ stage_overfull (unplaced periods.now bounds shortfalls) }
+fn overfull(entries: &[Entry; Timetable::IDS]) -> Result<(), Refusal>
+    requires { ArePeriods entries.now }
+    ensures { MatchResult result (λ _. stage_overfull entries.now ≡ Passed) (λ r. stage_overfull entries.now ≡ Refused r) }
 {
-    let mut sum: u64 = 0;
-    let mut id: usize = 0;
-    while id < Timetable::IDS {
-        sum += weight_of(periods[id]) as u64;
-        if (Timetable::WHOLE as u64) < sum {
-            return Verdict::Refused(Refusal::of(Refusal::OVERFULL, id));
+    let mut sum: u16 = 0;
+    for (id, e) in entries.iter().enumerate() {
+        sum += weight_of(e.period);
+        if Timetable::WHOLE < sum {
+            return Err(Refusal::of(Refusal::OVERFULL, id));
         }
-        id += 1;
     }
-    Verdict::Passed
+    Ok(())
 }
 
 // Stage 8: it names the lowest listed id whose shortfall is not below 256 R.
-fn behind(
-    periods: &[u16; Timetable::IDS],
-    bounds: &[u8; Timetable::IDS],
-    shortfalls: &[u16; Timetable::IDS],
-) -> Verdict
-    ensures { result ≡ stage_behind (unplaced periods.now bounds.now shortfalls.now) }
+fn behind(entries: &[Entry; Timetable::IDS]) -> Result<(), Refusal>
+    ensures { MatchResult result (λ _. stage_behind entries.now ≡ Passed) (λ r. stage_behind entries.now ≡ Refused r) }
 {
-    let mut id: usize = 0;
-    while id < Timetable::IDS {
-        let e = unplaced_row(periods, bounds, shortfalls, id);
-        if is_behind(e) {
-            return Verdict::Refused(Refusal::of(Refusal::BEHIND, id));
-        }
-        id += 1;
-    }
-    Verdict::Passed
-}
-
-// The entry of an id that is not placed yet, its figures each from its column.
-fn unplaced_row(
-    periods: &[u16; Timetable::IDS],
-    bounds: &[u8; Timetable::IDS],
-    shortfalls: &[u16; Timetable::IDS],
-    id: usize,
-) -> Entry
-    requires { id < IDS }
-    ensures { result ≡ entry_of (unplaced periods.now bounds.now shortfalls.now) id }
-{
-    Entry {
-        period: periods[id],
-        offset: 0,
-        bound: bounds[id],
-        shortfall: shortfalls[id],
+    match entries.iter().position(|e| is_behind(*e)) {
+        Some(id) => Err(Refusal::of(Refusal::BEHIND, id)),
+        None => Ok(()),
     }
 }
 
@@ -173,8 +125,5 @@ fn unplaced_row(
 fn is_behind(e: Entry) -> bool
     ensures { result ≡ is_behind e }
 {
-    if !e.is_listed() {
-        return false;
-    }
-    Timetable::WHOLE * (e.bound as u16) <= e.shortfall
+    e.is_listed() && Timetable::WHOLE * (e.bound as u16) <= e.shortfall
 }

@@ -19,7 +19,7 @@ use Rattle.archive.specs.AnswerRead.{read_answer}
 use Rattle.change.proofs.Answers.{Gets, refused, accepted, no_slot, no_length, gets, accepted_continues, record_accepted, record_none, refusal_number}
 use Rattle.change.proofs.AsBefore.{behind_named}
 use Rattle.change.proofs.GivenLaws.{at_request, gives, wanting_number}
-use Rattle.change.proofs.Granted.{granted}
+use Rattle.change.proofs.Onward.{granted}
 use Rattle.change.proofs.Histories.{history_valid, sent_accepted, sent_refused}
 use Rattle.change.proofs.OneGiven.{gives_one}
 use Rattle.change.proofs.QueriedLaws.{owner_given, owner_only, standing_given, standing_only}
@@ -71,7 +71,7 @@ use Rattle.timetable.specs.Owner.{owner_number}
 use Rattle.timetable.specs.Sound.{entries_in_range}
 use Rattle.timetable.specs.Timetable.{owner_at, slices_at}
 use Rattle.transition.proofs.Reach.{tries_count}
-use Rattle.transition.specs.Plan.{Plan}
+use Rattle.transition.specs.declared.Plan.{Plan}
 use Rattle.transition.specs.Reach.{is_searched, HasPlacement, PassedOver, SlotBreaks}
 
 -- ---- 1

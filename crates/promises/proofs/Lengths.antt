@@ -28,7 +28,7 @@ use Rattle.transition.proofs.Reach.{fit_reached}
 use Rattle.transition.proofs.Search.{PassedFirst, passed_here}
 use Rattle.transition.proofs.RuleThreeLaws.{goes_kept, longer_breaks}
 use Rattle.transition.proofs.Walk.{step_before, reach_before}
-use Rattle.transition.specs.Plan.{Plan}
+use Rattle.transition.specs.declared.Plan.{Plan}
 use Rattle.transition.specs.Reach.{reach, AnyoneBreaks, PassedOver, HasPlacement, SlotBreaks, CannotReach}
 use Rattle.transition.specs.Transition.{longer}
 

@@ -10,7 +10,7 @@ use native.Mathlib.Decide.{ℕ_discrete}
 use native.Mathlib.Omega.{arith}
 use Prim.Native.Nat.{ℕ, ◌≤◌, ◌<◌}
 use Rattle.change.proofs.AsBefore.{in_full_same, with_asks}
-use Rattle.change.proofs.Granted.{as_there}
+use Rattle.change.proofs.Onward.{as_there}
 use Rattle.change.proofs.GivenLaws.{asks_bound}
 use Rattle.change.proofs.OneGiven.{bound_one}
 use Rattle.change.proofs.Start.{Bound, bound_range}
