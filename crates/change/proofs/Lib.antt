@@ -15,3 +15,4 @@ pub mod Passing
 pub mod QueryLaws
 pub mod QueriedLaws
 pub mod OneOutcome
+pub mod FromFn

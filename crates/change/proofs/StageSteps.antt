@@ -11,18 +11,18 @@ use mathlib.Core.Path.{◌≡◌, sym, ap, ap₂, ◌∙◌}
 use native.Mathlib.Decide.{dec_le}
 use native.Mathlib.Numerals.{add-one}
 use native.Mathlib.Omega.{arith}
+use Rattle.std.specs.List.{AllWithin, HoldsAt}
 use Prim.Native.Nat.{ℕ, suc, ◌+◌, ◌*◌, ◌≤◌, ◌<◌}
-use Rattle.change.specs.Change.{shortfalls_of}
 use Rattle.change.specs.Stages.{asked_bound, bound_before, entering, weight_sum, overfull, is_behind, behind, stage_overfull, stage_behind}
 use Rattle.numbers.specs.Chain.{refused_at}
 use Rattle.numbers.specs.declared.Verdict.TheVariants.{Passed, Refused}
 use Rattle.numbers.specs.Numbers.{OVERFULL, BEHIND, refusal}
 use Rattle.records.specs.declared.Ask.{Ask}
+use Rattle.slots.proofs.Below.{none_first, some_first}
 use Rattle.slots.specs.Below.{first}
 use Rattle.slots.specs.Limits.{IDS, WHOLE}
 use Rattle.slots.specs.Shortfall.{keeps, weight_of}
 use Rattle.timetable.proofs.EntryLaws.{weight_le}
-use Rattle.timetable.proofs.Filling.{Filled}
 use Rattle.timetable.proofs.ScanLaws.{first_more, first_end, first_here}
 use Rattle.timetable.specs.declared.Entry.{Entry}
 use Rattle.timetable.specs.Timetable.{absent_entry, no_entry, entry_of, is_listed, weight}
@@ -86,17 +86,21 @@ unfolding is_behind keeps
 behind_listed e l = rw l (leb_not (WHOLE * e.bound) e.shortfall)
 
 -- The test of an id.
-abbrev pub behind_test : List Entry → ℕ → Bool
+abbrev behind_test : List Entry → ℕ → Bool
 behind_test es i = is_behind (entry_of es i)
 
-module _ (es : List Entry) (n : ℕ) (e : first n (behind_test es) ≡ none) where
-  pub behind_here : n < IDS → behind_test es n ≡ true → Refused (refusal BEHIND n) ≡ stage_behind es
-  unfolding stage_behind behind
-  behind_here l h = named BEHIND (behind_test es) n e l h
+module _ (es : List Entry) (len : length es ≡ IDS) where
+  -- What a search for the first entry that is behind tells: it named an id,
+  pub behind_here : (i : ℕ) → i < length es → HoldsAt (λ e. is_behind e ≡ true) es i → AllWithin (λ e. is_behind e ≡ false) es 0 i
+      → stage_behind es ≡ Refused (refusal BEHIND i)
+  unfolding stage_behind behind refused_at
+  behind_here i k h n =
+      ap (refused_at BEHIND) (some_first (behind_test es) IDS i (omega (arith, len)) (h no_entry) (λ j m. n j no_entry (omega arith) m))
 
-  pub behind_end : IDS ≤ n → n ≤ IDS → Passed ≡ stage_behind es
-  unfolding stage_behind behind
-  behind_end a b = named_nobody BEHIND (behind_test es) n e a b
+  -- or nobody.
+  pub behind_nobody : AllWithin (λ e. is_behind e ≡ false) es 0 (length es) → stage_behind es ≡ Passed
+  unfolding stage_behind behind refused_at
+  behind_nobody n = ap (refused_at BEHIND) (none_first (behind_test es) IDS (λ j m. n j no_entry (omega arith) (omega (arith, len))))
 
 -- ---- stage 7
 
