@@ -16,3 +16,4 @@ pub mod QueryLaws
 pub mod QueriedLaws
 pub mod OneOutcome
 pub mod FromFn
+pub mod ToldLaws
