@@ -6,14 +6,16 @@ use lib.Seq.{ext_get_or}
 use mathlib.Core.Bool.{cond}
 use mathlib.Core.List.{List}
 use mathlib.Core.Logic.{⊎_elim}
-use mathlib.Core.Path.{◌≡◌, sym, ap, ◌∙◌}
+use mathlib.Core.Path.{◌≡◌, sym, ap, ◌∙◌, subst}
 use native.Mathlib.Decide.{dec_lt}
 use native.Mathlib.Omega.{arith}
 use Prim.Native.Nat.{ℕ, ◌-◌, ◌≤◌, ◌<◌}
 use Rattle.change.proofs.Start.{length_start, start_at_lem}
+use Rattle.change.specs.Change.{start_plan}
 use Rattle.change.specs.Periods.{ArePeriods}
 use Rattle.change.specs.Stages.{asked_bound, entering, start_entries}
 use Rattle.records.specs.declared.Ask.{Ask}
+use Rattle.records.specs.declared.Request.{Request}
 use Rattle.records.specs.Reads.{AsksRange}
 use Rattle.records.specs.Request.{ask_of}
 use Rattle.slots.specs.declared.CoreSlot.{CoreSlot}
@@ -25,6 +27,7 @@ use Rattle.timetable.specs.declared.Entry.{Entry}
 use Rattle.timetable.specs.declared.Timetable.{Timetable}
 use Rattle.timetable.specs.Sound.{is_period}
 use Rattle.timetable.specs.Timetable.{absent_entry, entry_of, no_entry, shortfall_after}
+use Rattle.transition.specs.declared.Plan.{Plan}
 
 -- An entry that enters has the period that is asked for, 0 where none is.
 enters_period : (old : Entry) (start : ℕ) (ask : Ask) → (entering old start ask).period ≡ ask.period
@@ -55,3 +58,8 @@ module _ (t : Timetable) (slot : CoreSlot) (asks : List Ask) where
       each i j
       ∙ ap (λ (x : ℕ). entering (entry_of t.entries i) x (ask_of asks i)) (shortfall_cycle t s i j slot later)
       ∙ sym (start_at_lem t slot asks i j))
+
+-- In the plan of length 0 every entry has a period that is asked for.
+pub plan_periods : (t : Timetable) (r : Request) (plan : Plan) → plan ≡ start_plan t r → AsksRange r.asks → ArePeriods plan.entries
+unfolding start_plan
+plan_periods t r plan e a = subst (λ (x : Plan). ArePeriods x.entries) (sym e) (start_periods t r.slot r.asks a)

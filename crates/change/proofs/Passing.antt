@@ -96,42 +96,41 @@ first_passes t read area e = at (subst (FirstStages t read area) e (first_tells 
     at : FirstStages t read area Passed → (is_sound t ≡ true) × (read.reading ≡ Whole) × (t.base.0 ≤ read.request.slot.0)
     at (passed _ (sound a) (passed _ (enough b) (passed _ (whole c) (in_time d)))) = (a, c, d)
 
-module _ (t : Timetable) (s : List ℕ) (area : ℕ) (read : ReadRequest) (q : read ≡ read_request s) where
+module _ (t : Timetable) (s : List ℕ) (area : ℕ) where
   -- The answer, were this the verdict.
   given : Verdict → Answer
-  given v = elim v [ Passed ↦ answer_of t read.request (search_of t read.request) | Refused r ↦ refuse t r ]
+  given v = elim v [ Passed ↦ answer_of t (read_request s).request (search_of t (read_request s).request) | Refused r ↦ refuse t r ]
 
-  answer_given : (v : Verdict) → verdict_before t read area ≡ v → answer t s area ≡ given v
+  answer_given : (v : Verdict) → verdict_before t (read_request s) area ≡ v → answer t s area ≡ given v
   unfolding answer answer_to given
-  answer_given v e = ap (λ (y : ReadRequest). answer_to t y area) (sym q) ∙ ap given e
+  answer_given v e = ap given e
 
   -- What the first stages refuse.
-  pub answer_first : (r : Refusal) → first_of (stages_first t read area) ≡ Refused r → answer t s area ≡ refuse t r
+  pub answer_first : (r : Refusal) → first_of (stages_first t (read_request s) area) ≡ Refused r → answer t s area ≡ refuse t r
   unfolding given verdict_before
-  answer_first r e = answer_given (Refused r) (split_refused (stages_first t read area) _ r e)
+  answer_first r e = answer_given (Refused r) (split_refused (stages_first t (read_request s) area) _ r e)
 
   -- A timetable that is not sound is refused.
   pub answer_unsound : is_sound t ≡ false → answer t s area ≡ refuse t (refusal NOT_SOUND 0)
-  answer_unsound h = answer_first _ ((first_tells t read area).only _ (chain.refused _ (not_sound h)))
+  answer_unsound h = answer_first _ ((first_tells t (read_request s) area).only _ (chain.refused _ (not_sound h)))
 
   -- A refusal has a number above 0.
-  refused_number : (r : Refusal) → verdict_before t read area ≡ Refused r → 0 < r.number
-  refused_number r e = (refusal_number t s area r (said t s area (Refused r) (ap (λ (y : ReadRequest). verdict_before t y area) (sym q) ∙ e))).0
+  refused_number : (r : Refusal) → verdict_before t (read_request s) area ≡ Refused r → 0 < r.number
+  refused_number r e = (refusal_number t s area r (said t s area (Refused r) e)).0
 
-  pub first_number : (r : Refusal) → first_of (stages_first t read area) ≡ Refused r → 0 < r.number
+  pub first_number : (r : Refusal) → first_of (stages_first t (read_request s) area) ≡ Refused r → 0 < r.number
   unfolding verdict_before
-  first_number r e = refused_number r (split_refused (stages_first t read area) _ r e)
+  first_number r e = refused_number r (split_refused (stages_first t (read_request s) area) _ r e)
 
   -- What passes them is in range.
-  pub first_range : first_of (stages_first t read area) ≡ Passed → RequestRange read.request
-  first_range e =
-      subst (λ (y : ReadRequest). y.reading ≡ Whole → RequestRange y.request) (sym q) (read_in_range s) (first_passes t read area e).1
+  pub first_range : first_of (stages_first t (read_request s) area) ≡ Passed → RequestRange (read_request s).request
+  first_range e = read_in_range s (first_passes t (read_request s) area e).1
 
-  module _ (e : first_of (stages_first t read area) ≡ Passed) (plan : Plan) (p : plan ≡ start_plan t read.request) where
+  module _ (e : first_of (stages_first t (read_request s) area) ≡ Passed) (plan : Plan) (p : plan ≡ start_plan t (read_request s).request) where
     -- What passes them is judged by the stages after them.
-    listed_next : verdict_before t read area ≡ first_of (stages_listed plan.entries)
+    listed_next : verdict_before t (read_request s) area ≡ first_of (stages_listed plan.entries)
     unfolding verdict_before start_plan
-    listed_next = split_passed (stages_first t read area) _ e ∙ sym (ap (λ (x : Plan). first_of (stages_listed x.entries)) p)
+    listed_next = split_passed (stages_first t (read_request s) area) _ e ∙ sym (ap (λ (x : Plan). first_of (stages_listed x.entries)) p)
 
     pub answer_listed : (r : Refusal) → first_of (stages_listed plan.entries) ≡ Refused r → answer t s area ≡ refuse t r
     unfolding given
@@ -141,26 +140,25 @@ module _ (t : Timetable) (s : List ℕ) (area : ℕ) (read : ReadRequest) (q : r
     listed_number r f = refused_number r (listed_next ∙ f)
 
     module _ (f : first_of (stages_listed plan.entries) ≡ Passed) where
-      pub answer_searched : (x : Searched) → x ≡ search_from read.request.limit 0 plan → answer t s area ≡ answer_of t read.request x
+      pub answer_searched : (x : Searched) → x ≡ search_from (read_request s).request.limit 0 plan → answer t s area ≡ answer_of t (read_request s).request x
       unfolding given search_of
       answer_searched x h =
-          answer_given Passed (listed_next ∙ f) ∙ ap (answer_of t read.request) (sym (h ∙ ap (search_from read.request.limit 0) p))
+          answer_given Passed (listed_next ∙ f)
+          ∙ ap (answer_of t (read_request s).request) (sym (h ∙ ap (search_from (read_request s).request.limit 0) p))
 
-      pub passes : Admitted t read.request area
-      passes =
-          subst (λ (y : ReadRequest). verdict_before t y area ≡ Passed → Admitted t y.request area) (sym q)
-          (λ v. admitted t s area (said t s area Passed v)) (listed_next ∙ f)
+      pub passes : Admitted t (read_request s).request area
+      passes = admitted t s area (said t s area Passed (listed_next ∙ f))
 
       pub ready_plan : Ready plan
       ready_plan =
-          let fit = admitted_fit t read.request area passes in
-          subst Ready (sym p) (record { ranged = ranged_is (start_plan t read.request).entries fit.ranged; unplaced = fit.unplaced })
+          let fit = admitted_fit t (read_request s).request area passes in
+          subst Ready (sym p) (record { ranged = ranged_is (start_plan t (read_request s).request).entries fit.ranged; unplaced = fit.unplaced })
 
       -- A length that was found: the timetable can hold it and its base.
-      pub holds : (x : Searched) → x ≡ search_from read.request.limit 0 plan → (n : ℕ) → x.ending ≡ Found n
-          → (read.request.slot.0 ≤ LAST_SLOT) × (n ≤ LONGEST)
+      pub holds : (x : Searched) → x ≡ search_from (read_request s).request.limit 0 plan → (n : ℕ) → x.ending ≡ Found n
+          → ((read_request s).request.slot.0 ≤ LAST_SLOT) × (n ≤ LONGEST)
       unfolding length_of
       holds x h n k = (
         passes.range.slot,
-        omega (arith, found_limit read.request.limit plan, ap length_of (sym k ∙ ap (λ (y : Searched). y.ending) h), passes.range.limit),
+        omega (arith, found_limit (read_request s).request.limit plan, ap length_of (sym k ∙ ap (λ (y : Searched). y.ending) h), passes.range.limit),
       )

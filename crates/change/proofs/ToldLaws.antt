@@ -4,21 +4,28 @@ use lib.Seq.{sets}
 use mathlib.Core.List.{List}
 use mathlib.Core.Logic.{◌≢◌}
 use mathlib.Core.Path.{◌≡◌, refl, sym, ap, ◌∙◌, subst}
-use Prim.Native.Nat.{ℕ, ◌≤◌}
+use native.Mathlib.Omega.{arith}
+use Prim.Native.Nat.{ℕ, ◌≤◌, ◌<◌}
 use Rattle.change.proofs.Answers.{record_accepted, record_none}
 use Rattle.change.proofs.Passing.{answer_unsound, goes_into}
-use Rattle.change.specs.Change.{answer, outcome_of, record_of, written}
+use Rattle.change.specs.Change.{answer, answer_of, new_timetable, number_of, outcome_of, place_of, record_of, refuse, starts_of, timetable_of, written}
 use Rattle.change.specs.declared.Answer.{Answer}
 use Rattle.change.specs.declared.Granted.{Granted}
 use Rattle.change.specs.declared.Outcome.{Outcome}
 use Rattle.change.specs.declared.Refused.{Refused}
 use Rattle.change.specs.Told.{told}
-use Rattle.numbers.specs.Numbers.{ACCEPTED}
+use Rattle.numbers.specs.declared.Refusal.{Refusal}
+use Rattle.numbers.specs.Numbers.{ACCEPTED, SLOT_MISSED, LENGTHS_EXHAUSTED}
 use Rattle.records.specs.Answer.{answer_record}
+use Rattle.records.specs.declared.Request.{Request}
 use Rattle.slots.specs.Limits.{AREA, LONGEST}
-use Rattle.std.proofs.Common.{Err, IfOk, Ok}
+use Rattle.std.proofs.Common.{Err, IfErr, IfOk, Ok}
+use Rattle.std.specs.Result.{IsErrAnd}
 use Rattle.std.specs.declared.result.Result.{Result}
 use Rattle.timetable.specs.declared.Timetable.{Timetable}
+use Rattle.transition.specs.declared.Ending.{Ending}
+use Rattle.transition.specs.declared.Ending.TheVariants.{Found, Missed, Exhausted}
+use Rattle.transition.specs.declared.Plan.{Plan}
 
 module _ (t : Timetable) where
   -- A grant for a request with an area has a record that goes into it.
@@ -56,3 +63,43 @@ module _ (t : Timetable) where
           (λ j. record { number = r.refusal.number; place = r.refusal.place; tries = r.tries; written = length (k j); timetable = t }) ∙ sym (ap (λ x. outcome_of (told t x)) e),
           ap (sets area 0) k ∙ sym (ap (λ x. written (told t x) area) e),
         )
+
+-- ---- a refusal before the search
+
+module _ (t : Timetable) (s : List ℕ) (area : ℕ) where
+  -- What is refused, by the refusal from which it is made.
+  pub told_early : (d : Result Granted Refused) (x : Refusal) → IsErrAnd d (λ y. y ≡ record { refusal = x; tries = 0 })
+      → answer t s area ≡ refuse t x → 0 < x.number → (told t d ≡ answer t s area) × IfErr d (λ r. r.refusal.number ≢ ACCEPTED)
+  told_early (Ok g) x h e pos = absurd h
+  told_early (Err y) x h e pos = (
+    ap (λ (z : Refused). told t (Err z)) h ∙ sym e,
+    λ z. omega (arith, pos, z, ap (λ (r : Refused). r.refusal.number) h),
+  )
+
+-- ---- the end of a search
+
+module _ (t : Timetable) (r : Request) (end : Ending) (tries n : ℕ) (plan : Plan) where
+  -- A length that was found;
+  pub told_found : end ≡ Found n → (starts : List ℕ) → starts ≡ starts_of t r → (new : Timetable) → new ≡ new_timetable r starts n plan
+      → told t (Ok (record { tries = tries; timetable = new })) ≡ answer_of t r (record { ending = end; tries = tries; plan = plan })
+  unfolding answer_of number_of place_of timetable_of
+  told_found e starts s new h =
+      ap (λ (x : Timetable). told t (Ok (record { tries = tries; timetable = x }))) (h ∙ ap (λ (x : List ℕ). new_timetable r x n plan) s)
+      ∙ sym (ap (λ (x : Ending). answer_of t r (record { ending = x; tries = tries; plan = plan })) e)
+
+  module _ (x : Refused) where
+    -- a slot that was missed;
+    pub told_missed : end ≡ Missed n → (x.refusal.number ≡ SLOT_MISSED) × (x.refusal.place ≡ n) × (x.tries ≡ tries)
+        → told t (Err x) ≡ answer_of t r (record { ending = end; tries = tries; plan = plan })
+    unfolding answer_of number_of place_of timetable_of
+    told_missed e h =
+        (λ j. record { number = h.0 j; place = h.1 j; tries = h.2 j; timetable = t })
+        ∙ sym (ap (λ (x : Ending). answer_of t r (record { ending = x; tries = tries; plan = plan })) e)
+
+    -- or every length searched in vain.
+    pub told_exhausted : end ≡ Exhausted n → (x.refusal.number ≡ LENGTHS_EXHAUSTED) × (x.refusal.place ≡ n) × (x.tries ≡ tries)
+        → told t (Err x) ≡ answer_of t r (record { ending = end; tries = tries; plan = plan })
+    unfolding answer_of number_of place_of timetable_of
+    told_exhausted e h =
+        (λ j. record { number = h.0 j; place = h.1 j; tries = h.2 j; timetable = t })
+        ∙ sym (ap (λ (x : Ending). answer_of t r (record { ending = x; tries = tries; plan = plan })) e)

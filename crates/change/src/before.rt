@@ -1,7 +1,8 @@
 // The stages before the search, in the order of docs/RULES.md 7.2, once the timetable is known to be sound: a small area, the fields, then 6, 7 and 8. The lowest stage wins.
 ghost use Rattle.std.specs.Prelude.{MatchResult, false, true, ◌≡◌, ◌≤◌};
+ghost use Rattle.change.specs.Change.{start_plan};
 ghost use Rattle.change.specs.Periods.{ArePeriods};
-ghost use Rattle.change.specs.Stages.{asked_bound, bound_before, entering, is_behind, stage_behind, stage_overfull, stages_first, stages_listed, start_entries};
+ghost use Rattle.change.specs.Stages.{asked_bound, bound_before, entering, is_behind, stage_behind, stage_overfull, stages_first, stages_listed};
 ghost use Rattle.numbers.specs.Chain.{first_of};
 ghost use Rattle.numbers.specs.declared.Verdict.TheVariants.{Passed, Refused};
 ghost use Rattle.numbers.specs.Numbers.{NOT_SOUND, refusal};
@@ -13,6 +14,7 @@ use numbers::Refusal;
 use records::read::read_request;
 use records::{Ask, Reading, Request};
 use timetable::{Entry, SoundTimetable, Timetable, weight_of};
+use transition::Plan;
 
 // The first stage: the timetable as one that is known to be sound.
 pub fn sound_stage<'a>(t: &'a Timetable) -> Result<SoundTimetable<'a>, Refusal>
@@ -40,14 +42,18 @@ pub fn first_stages(t: SoundTimetable, request: &[u8], area: usize) -> Result<Re
     Ok(asked)
 }
 
-// The entries at the request slot: each id enters with its new period and bound, and its shortfall there.
-pub fn start_entries(t: SoundTimetable, asked: &Request) -> [Entry; Timetable::IDS]
+// The plan of length 0: no transition slot, and each id enters with its new period and bound, and its shortfall at the request slot.
+pub fn start_plan(t: SoundTimetable, asked: &Request) -> Plan
     requires { t.timetable.now.base.0 ≤ asked.now.slot.0 }
-    ensures { result ≡ start_entries t.entry.timetable.now asked.now.slot asked.now.asks }
+    ensures { result ≡ start_plan t.entry.timetable.now asked.now }
 {
     let elapsed = asked.slot.0 - t.timetable.base.0;
     let olds = &t.timetable.entries;
-    std::array::from_fn(|id| enter(olds[id], elapsed, asked.asks[id]))
+    let entries = std::array::from_fn(|id| enter(olds[id], elapsed, asked.asks[id]));
+    Plan {
+        owners: [0; Timetable::LONGEST],
+        entries,
+    }
 }
 
 // Stages 7 and 8, over the entries at the request slot.

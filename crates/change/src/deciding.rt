@@ -18,13 +18,9 @@ pub fn grant(t: SoundTimetable, request: &[u8], area: usize) -> Result<Granted, 
     ensures refused { IfErr result (λ r. r.refusal.number ≢ ACCEPTED) }
 {
     let asked = before::first_stages(t, request, area)?;
-    let entries = before::start_entries(t, &asked);
-    before::listed_stages(&entries)?;
-    let starts = shortfalls_of(&entries);
-    let mut plan = Plan {
-        owners: [0; Timetable::LONGEST],
-        entries,
-    };
+    let mut plan = before::start_plan(t, &asked);
+    before::listed_stages(&plan.entries)?;
+    let starts = shortfalls_of(&plan.entries);
     let found = plan.search(asked.limit);
     match found.ending {
         Ending::Found(length) => Ok(Granted {
