@@ -1,16 +1,27 @@
 -- The two queries, by the tests that the code makes, in their order. Assumes nothing.
 use borrow.Author.Tests.{lt-ltb, le-ltb, le-leb, lt-leb}
 use mathlib.Core.Bool.{true, false}
-use mathlib.Core.Path.{◌≡◌}
+use mathlib.Core.Logic.{◌⊎◌, inl, inr}
+use mathlib.Core.Option.{none, some}
+use mathlib.Core.Path.{◌≡◌, ap}
 use Prim.Native.Nat.{ℕ, ◌≤◌, ◌<◌}
 use Rattle.change.specs.Queries.{refuse_owner, owner_query, refuse_standing, standing, standing_query}
-use Rattle.numbers.specs.Numbers.{ACCEPTED, NOT_SOUND, OUT_OF_RANGE, TOO_EARLY, NOT_LISTED}
+use Rattle.numbers.specs.declared.Refusal.{Refusal}
+use Rattle.numbers.specs.Numbers.{ACCEPTED, NOT_SOUND, OUT_OF_RANGE, TOO_EARLY, NOT_LISTED, refusal}
+use Rattle.slots.specs.Clocks.{slice_count}
 use Rattle.slots.specs.declared.CoreSlot.{CoreSlot}
-use Rattle.slots.specs.Limits.{IDS, LAST_SLOT}
+use Rattle.slots.specs.Limits.{IDLE, IDS, LAST_SLOT}
+use Rattle.std.proofs.Common.{MatchOption, None, Some}
+use Rattle.std.specs.declared.option.Option.{Option}
+use Rattle.std.specs.Option.{unwrap_or}
 use Rattle.timetable.specs.declared.Timetable.{Timetable}
 use Rattle.timetable.specs.Owner.{owner_number}
 use Rattle.timetable.specs.Sound.{is_sound}
 use Rattle.timetable.specs.Timetable.{lists, owner_at}
+
+-- How a slot is refused: above the limit, or before the last accepted request slot.
+abbrev SlotRefused : Timetable → CoreSlot → Refusal → Type 0
+SlotRefused t slot r = (LAST_SLOT < slot.0) × (r ≡ refusal OUT_OF_RANGE 0) ⊎ (slot.0 ≤ LAST_SLOT) × (slot.0 < t.request.0) × (r ≡ refusal TOO_EARLY 0)
 
 module _ (t : Timetable) (slot : CoreSlot) where
   pub owner_unsound : is_sound t ≡ false → owner_query t slot ≡ refuse_owner NOT_SOUND
@@ -30,6 +41,16 @@ module _ (t : Timetable) (slot : CoreSlot) where
   unfolding owner_query
   owner_told s h e = rw (s, le-ltb LAST_SLOT slot.0 h, le-ltb slot.0 t.request.0 e)
 
+  pub owner_slot : is_sound t ≡ true → (r : Refusal) → SlotRefused t slot r → owner_query t slot ≡ record { number = r.number; place = r.place; owner = 0 }
+  owner_slot s r (inl h) = rw h.1 (owner_high s h.0)
+  owner_slot s r (inr h) = rw h.2 (owner_early s h.0 h.1)
+
+  -- The owner's number, or 255 for idle.
+  pub owner_number_is : (o : Option ℕ) → MatchOption o (owner_at t slot ≡ none) (λ i. owner_at t slot ≡ some i) → owner_number (owner_at t slot) ≡ unwrap_or o IDLE
+  unfolding owner_number
+  owner_number_is None h = ap owner_number h
+  owner_number_is (Some i) h = ap owner_number h
+
   module _ (id : ℕ) where
     pub standing_unsound : is_sound t ≡ false → standing_query t id slot ≡ refuse_standing NOT_SOUND
     unfolding standing_query
@@ -46,6 +67,11 @@ module _ (t : Timetable) (slot : CoreSlot) where
     pub standing_early : is_sound t ≡ true → id < IDS → slot.0 ≤ LAST_SLOT → slot.0 < t.request.0 → standing_query t id slot ≡ refuse_standing TOO_EARLY
     unfolding standing_query
     standing_early s i h e = rw (s, lt-leb IDS id i, le-ltb LAST_SLOT slot.0 h, lt-ltb slot.0 t.request.0 e)
+
+    pub standing_slot : is_sound t ≡ true → id < IDS → (r : Refusal) → SlotRefused t slot r
+        → standing_query t id slot ≡ record { number = r.number; place = r.place; shortfall = 0; slices = slice_count 0 }
+    standing_slot s i r (inl h) = rw h.1 (standing_high s i h.0)
+    standing_slot s i r (inr h) = rw h.2 (standing_early s i h.0 h.1)
 
     pub standing_unlisted : is_sound t ≡ true → id < IDS → slot.0 ≤ LAST_SLOT → t.request.0 ≤ slot.0 → lists t id ≡ false
         → standing_query t id slot ≡ refuse_standing NOT_LISTED

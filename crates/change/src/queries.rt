@@ -1,8 +1,9 @@
 // The owner query and the standing query. A refused query returns zeros beside its number.
 ghost use Rattle.std.specs.Prelude.{MatchResult, ◌≡◌, ◌⊎◌, ◌≤◌, ◌<◌};
 ghost use Rattle.change.specs.Queried.{owner_answer, standing_answer};
-ghost use Rattle.change.specs.Queries.{owner_query, refuse_owner, refuse_standing, standing_query};
-ghost use Rattle.numbers.specs.Numbers.{ACCEPTED, OUT_OF_RANGE, TOO_EARLY};
+ghost use Rattle.change.specs.Queries.{owner_query, standing_query};
+ghost use Rattle.numbers.specs.Numbers.{ACCEPTED, OUT_OF_RANGE, TOO_EARLY, refusal};
+ghost use Rattle.slots.specs.Clocks.{slice_count};
 ghost use Rattle.slots.specs.Limits.{LAST_SLOT};
 
 use crate::before::sound_stage;
@@ -51,7 +52,7 @@ pub fn standing_query(t: &Timetable, id: u8, slot: CoreSlot) -> StandingAnswer
 
 // The owner of a slot, or the refusal of the owner query.
 fn owner_at(t: &Timetable, slot: CoreSlot) -> Result<u8, Refusal>
-    ensures { MatchResult result (λ o. owner_query t.now slot ≡ owner_answer ACCEPTED o) (λ r. (r.place ≡ 0) × (owner_query t.now slot ≡ refuse_owner r.number)) }
+    ensures { MatchResult result (λ o. owner_query t.now slot ≡ owner_answer ACCEPTED o) (λ r. owner_query t.now slot ≡ record { number = r.number; place = r.place; owner = 0 }) }
 {
     let sound = sound_stage(t)?;
     slot_stages(sound, slot)?;
@@ -60,7 +61,7 @@ fn owner_at(t: &Timetable, slot: CoreSlot) -> Result<u8, Refusal>
 
 // The standing of an id at a slot, or the refusal of the standing query.
 fn standing_at(t: &Timetable, id: u8, slot: CoreSlot) -> Result<Standing, Refusal>
-    ensures { MatchResult result (λ s. standing_query t.now id slot ≡ standing_answer ACCEPTED s.shortfall s.slices) (λ r. (r.place ≡ 0) × (standing_query t.now id slot ≡ refuse_standing r.number)) }
+    ensures { MatchResult result (λ s. standing_query t.now id slot ≡ standing_answer ACCEPTED s.shortfall s.slices) (λ r. standing_query t.now id slot ≡ record { number = r.number; place = r.place; shortfall = 0; slices = slice_count 0 }) }
 {
     let sound = sound_stage(t)?;
     if Timetable::IDS <= (id as usize) {
@@ -76,7 +77,7 @@ fn standing_at(t: &Timetable, id: u8, slot: CoreSlot) -> Result<Standing, Refusa
 // What both queries ask of a slot: that it is not above the limit, and then that it is not before the last accepted request slot.
 fn slot_stages(t: SoundTimetable, slot: CoreSlot) -> Result<(), Refusal>
     ensures { MatchResult result (λ _. (slot.0 ≤ LAST_SLOT) × (t.entry.timetable.now.request.0 ≤ slot.0))
-        (λ r. (r.place ≡ 0) × ((LAST_SLOT < slot.0) × (r.number ≡ OUT_OF_RANGE) ⊎ (slot.0 ≤ LAST_SLOT) × (slot.0 < t.entry.timetable.now.request.0) × (r.number ≡ TOO_EARLY))) }
+        (λ r. (LAST_SLOT < slot.0) × (r ≡ refusal OUT_OF_RANGE 0) ⊎ (slot.0 ≤ LAST_SLOT) × (slot.0 < t.entry.timetable.now.request.0) × (r ≡ refusal TOO_EARLY 0)) }
 {
     if Timetable::LAST_SLOT < slot.0 {
         return Err(Refusal::of(Refusal::OUT_OF_RANGE, 0));

@@ -1,18 +1,30 @@
 -- `owner_at` makes the definition's tests in their order. Assumes nothing.
 use mathlib.Core.Path.{sym, ap, ◌∙◌}
-use Rattle.change.proofs.QueryLaws.{owner_unsound, owner_high, owner_early, owner_told}
+use Rattle.change.proofs.QueryLaws.{owner_number_is, owner_slot, owner_told, owner_unsound}
+use Rattle.change.specs.Queried.{owner_answer}
+use Rattle.change.specs.Queries.{owner_query}
+use Rattle.numbers.specs.Numbers.{ACCEPTED}
 use Rattle.std.proofs.lemmas.Result.{err_from_is_err_and}
+use Rattle.timetable.specs.declared.Timetable.{Timetable}
 use Rattle.change.proofs.queries.owner_at.Goals as goal
 
 pub returns-in_err-sound : goal.returns-in_err-sound
 returns-in_err-sound c =
     let p = err_from_is_err_and c.from_residual.result c.from_residual.ensures.1 in
-    ?
+    rw (p.1, p.2, c.in_err-sound.ensures.1) (owner_unsound c.args.t.now c.args.slot c.in_err-sound.ensures.0)
 
 pub returns-in_err-slot_stages : goal.returns-in_err-slot_stages
 returns-in_err-slot_stages c =
     let p = err_from_is_err_and c.from_residual-in_err-slot_stages.result c.from_residual-in_err-slot_stages.ensures.1 in
-    ?
+    let s = c.in_ok-sound.sound in
+    rw (p.1, p.2)
+    (ap (λ (t : Timetable). owner_query t c.args.slot) (sym c.in_ok-sound.ensures) ∙ owner_slot s.timetable.now c.args.slot s.sound _ c.in_err-slot_stages.ensures)
 
 pub returns : goal.returns
-returns c = ?
+returns c =
+    let s = c.in_ok-sound.sound in
+    let k = c.in_ok-slot_stages.ensures in
+    let o = owner_number_is s.timetable.now c.args.slot _ c.owner_at.ensures ∙ sym c.unwrap_or.ensures in
+    ap (λ (t : Timetable). owner_query t c.args.slot) (sym c.in_ok-sound.ensures)
+    ∙ owner_told s.timetable.now c.args.slot s.sound k.0 k.1
+    ∙ ap (owner_answer ACCEPTED) o
