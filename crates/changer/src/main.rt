@@ -9,7 +9,7 @@ ghost use Rattle.timetable.specs.Sound.{is_sound};
 
 use frames::{HEADER, stream};
 use numbers::Refusal;
-use timetable::Timetable;
+use timetable::{SoundTimetable, Timetable};
 
 // The timetable in force, the next request's ordinal, and where the last line ends in the output.
 #[derive(Clone, Copy)]
@@ -51,9 +51,11 @@ fn answered(s: Controller, request: &[u8], put: usize, out: &mut [u8]) -> Contro
     ensures put_in_bounds { (result.put ≤ length out.old) × (is_sound result.timetable ≡ true) × Answered s request.now (request_line s request.now) result }
     ensures puts { Puts out.old put (request_line s request.now) out.new result.put }
 {
-    let t = s.timetable;
+    let sound = SoundTimetable {
+        timetable: &s.timetable,
+    };
     let mut area = [0u8; Timetable::AREA];
-    let o = change::change_sound(t, request, &mut area);
+    let o = change::change_sound(sound, request, &mut area);
     let now = o.timetable;
     let size = length_of(o.number, now.length);
     let end = frames::write_line(out, put, s.ordinal, o.number, o.place, o.tries, size);
