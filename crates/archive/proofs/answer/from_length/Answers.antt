@@ -14,11 +14,11 @@ pub returns-then-not-length_stands : goal.returns-then-not-length_stands
 returns-then-not-length_stands c =
     let s = c.args.s.now in
     subst (AnswerRead s 0 no_schedule) (sym c.refused.ensures)
-    (length_stops s no_schedule (sym c.length_stands.ensures ∙ not-true _ (ap not c.if-not-length_stands.true)))
+    (length_stops s no_schedule (sym c.length_stands.ensures ∙ c.if-not-length_stands.true))
 
 pub returns : goal.returns
 returns c =
     let s = c.args.s.now in
     let r = c.from_owners.result in
-    length_goes s no_schedule r (sym c.length_stands.ensures ∙ not-false _ (ap not c.if-not-length_stands.false))
+    length_goes s no_schedule r (sym c.length_stands.ensures ∙ c.if-not-length_stands.false)
     (subst (λ (n : ℕ). AnswerRead s 4 (record { length = n; owners = replicate LONGEST 0; offsets = replicate IDS no_offset }) r) c.told_length.ensures c.from_owners.ensures)

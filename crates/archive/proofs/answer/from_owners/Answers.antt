@@ -20,15 +20,15 @@ pub returns-then-not-owners_stand : goal.returns-then-not-owners_stand
 returns-then-not-owners_stand c =
     let a = c.args in
     subst (AnswerRead a.s.now 4 (ahead a.told (replicate LONGEST 0))) (sym c.refused.ensures)
-    (owners_stops a.s.now _ (sym c.owners_stand.ensures ∙ not-true _ (ap not c.if-not-owners_stand.true)))
+    (owners_stops a.s.now _ (sym c.owners_stand.ensures ∙ c.if-not-owners_stand.true))
 
 pub owners_of-owners-requires : goal.owners_of-owners-requires
-owners_of-owners-requires c = owners_inside _ (sym c.owners_stand.ensures ∙ not-false _ (ap not c.if-not-owners_stand.false))
+owners_of-owners-requires c = owners_inside _ (sym c.owners_stand.ensures ∙ c.if-not-owners_stand.false)
 
 pub returns : goal.returns
 returns c =
     let a = c.args in
     let r = c.from_offsets.result in
-    owners_goes a.s.now _ r (sym c.owners_stand.ensures ∙ not-false _ (ap not c.if-not-owners_stand.false))
+    owners_goes a.s.now _ r (sym c.owners_stand.ensures ∙ c.if-not-owners_stand.false)
     (subst (λ (n : ℕ). AnswerRead a.s.now (7 + n) (ahead a.told (owners_below a.s.now LONGEST)) r) c.told_length.ensures
     (subst (λ (l : List ℕ). AnswerRead a.s.now (7 + c.told_length.result) (ahead a.told l) r) c.owners_of-owners.ensures c.from_offsets.ensures))

@@ -8,9 +8,9 @@ use Rattle.archive.proofs.answer.length_field.Goals as goal
 
 pub returns-then-not-length_stands : goal.returns-then-not-length_stands
 unfolding length_field
-returns-then-not-length_stands c = c.refused_at.ensures ∙ sym (rw (sym c.length_stands.ensures ∙ not-true _ (ap not c.if-not-length_stands.true)))
+returns-then-not-length_stands c = c.refused_at.ensures ∙ sym (rw (sym c.length_stands.ensures ∙ c.if-not-length_stands.true))
 
 pub returns : goal.returns
 unfolding length_field
 returns c =
-    rw c.told_length.ensures (sym (rw (sym c.length_stands.ensures ∙ not-false _ (ap not c.if-not-length_stands.false))))
+    rw c.told_length.ensures (sym (rw (sym c.length_stands.ensures ∙ c.if-not-length_stands.false)))

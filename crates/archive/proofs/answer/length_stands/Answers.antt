@@ -7,8 +7,8 @@ use mathlib.Core.Bool.{not}
 use Rattle.archive.proofs.answer.length_stands.Goals as goal
 
 pub returns-then-not-is_field : goal.returns-then-not-is_field
-returns-then-not-is_field c = sym (rw (sym c.is_field.ensures ∙ not-true _ (ap not c.if-not-is_field.true)))
+returns-then-not-is_field c = sym (rw (sym c.is_field.ensures ∙ c.if-not-is_field.true))
 
 pub returns : goal.returns
 returns c =
-    ap (λ n. leb n LONGEST) c.told_length.ensures ∙ sym (rw (sym c.is_field.ensures ∙ not-false _ (ap not c.if-not-is_field.false)))
+    ap (λ n. leb n LONGEST) c.told_length.ensures ∙ sym (rw (sym c.is_field.ensures ∙ c.if-not-is_field.false))

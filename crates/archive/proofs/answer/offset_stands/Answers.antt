@@ -12,12 +12,12 @@ use mathlib.Core.Bool.{not}
 use Rattle.archive.proofs.answer.offset_stands.Goals as goal
 
 pub returns-then-not-is_field : goal.returns-then-not-is_field
-returns-then-not-is_field c = sym (rw (sym c.is_field.ensures ∙ not-true _ (ap not c.if-not-is_field.true)))
+returns-then-not-is_field c = sym (rw (sym c.is_field.ensures ∙ c.if-not-is_field.true))
 
 pub content_at-id-requires : goal.content_at-id-requires
 content_at-id-requires c =
     let form : is_field c.args.s.now c.args.at 0x12 2 ≡ true =
-    sym c.is_field.ensures ∙ not-false _ (ap not c.if-not-is_field.false) in
+    sym c.is_field.ensures ∙ c.if-not-is_field.false in
     omega (arith, (field_inside _ _ 0x12 2 form).0)
 
 pub returns-then-id-ge-IDS : goal.returns-then-id-ge-IDS
@@ -29,13 +29,13 @@ returns-then-id-ge-IDS c =
 pub is_above-requires : goal.is_above-requires
 is_above-requires c =
     let form : is_field c.args.s.now c.args.at 0x12 2 ≡ true =
-    sym c.is_field.ensures ∙ not-false _ (ap not c.if-not-is_field.false) in
+    sym c.is_field.ensures ∙ c.if-not-is_field.false in
     (omega arith, omega (arith, (field_inside _ _ 0x12 2 form).0))
 
 pub returns : goal.returns
 returns c =
     let form : is_field c.args.s.now c.args.at 0x12 2 ≡ true =
-    sym c.is_field.ensures ∙ not-false _ (ap not c.if-not-is_field.false) in
+    sym c.is_field.ensures ∙ c.if-not-is_field.false in
     let a = c.args in
     let i = c.content_at-id.ensures in
     c.is_above.ensures

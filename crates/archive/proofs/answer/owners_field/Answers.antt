@@ -8,9 +8,9 @@ use Rattle.archive.proofs.answer.owners_field.Goals as goal
 
 pub returns-then-not-owners_stand : goal.returns-then-not-owners_stand
 unfolding owners_field
-returns-then-not-owners_stand c = c.refused_at.ensures ∙ sym (rw (sym c.owners_stand.ensures ∙ not-true _ (ap not c.if-not-owners_stand.true)))
+returns-then-not-owners_stand c = c.refused_at.ensures ∙ sym (rw (sym c.owners_stand.ensures ∙ c.if-not-owners_stand.true))
 
 pub returns : goal.returns
 unfolding owners_field
 returns c =
-    rw c.told_length-size.ensures (sym (rw (sym c.owners_stand.ensures ∙ not-false _ (ap not c.if-not-owners_stand.false))))
+    rw c.told_length-size.ensures (sym (rw (sym c.owners_stand.ensures ∙ c.if-not-owners_stand.false)))

@@ -22,13 +22,13 @@ returns-then-not-is_field c =
     let s = c.args.s.now in
     sym
     (rw (
-      sym (subst (λ (n : ℕ). c.is_field.result ≡ is_field s 4 0x11 n) c.told_length-size.ensures c.is_field.ensures) ∙ not-true _ (ap not c.if-not-is_field.true),
+      sym (subst (λ (n : ℕ). c.is_field.result ≡ is_field s 4 0x11 n) c.told_length-size.ensures c.is_field.ensures) ∙ c.if-not-is_field.true,
       and-false _,
     ))
 
 pub are_owners-requires : goal.are_owners-requires
 are_owners-requires c =
-    omega (arith, (field_inside _ _ 0x11 _ (sym c.is_field.ensures ∙ not-false _ (ap not c.if-not-is_field.false))).0)
+    omega (arith, (field_inside _ _ 0x11 _ (sym c.is_field.ensures ∙ c.if-not-is_field.false)).0)
 
 pub returns : goal.returns
 returns c =
@@ -38,5 +38,5 @@ returns c =
     ∙ sym
     (rw (
       le-leb (told_length s) LONGEST (omega (arith, e)),
-      sym (subst (λ (n : ℕ). c.is_field.result ≡ is_field s 4 0x11 n) e c.is_field.ensures) ∙ not-false _ (ap not c.if-not-is_field.false),
+      sym (subst (λ (n : ℕ). c.is_field.result ≡ is_field s 4 0x11 n) e c.is_field.ensures) ∙ c.if-not-is_field.false,
     ))

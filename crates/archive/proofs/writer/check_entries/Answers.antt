@@ -20,26 +20,26 @@ pub returns-then-not-is_entry : goal.returns-then-not-is_entry
 returns-then-not-is_entry c =
     rw c.of.ensures
     (reading_is _ _ _ c.loop-n.invariant.0
-    (Stop.high (omega (arith, c.loop-n-test.true)) (entry_fails _ _ (sym c.is_entry.ensures ∙ not-true _ (ap not c.if-not-is_entry.true)))))
+    (Stop.high (omega (arith, c.loop-n-test.true)) (entry_fails _ _ (sym c.is_entry.ensures ∙ c.if-not-is_entry.true))))
 
 pub returns-then-id-floor : goal.returns-then-id-floor
 returns-then-id-floor c =
     let in-range : EntryRange c.args.listing.now c.loop-n.n =
-    entry_range _ _ (sym c.is_entry.ensures ∙ not-false _ (ap not c.if-not-is_entry.false)) in
+    entry_range _ _ (sym c.is_entry.ensures ∙ c.if-not-is_entry.false) in
     let l = c.loop-n in
     rw c.of-then-id-floor.ensures (reading_is _ _ _ l.invariant.0 (Stop.low in-range (omega (arith, c.if-id-floor.true, l.invariant.1))))
 
 pub overflow_add-floor : goal.overflow_add-floor
 overflow_add-floor c =
     let in-range : EntryRange c.args.listing.now c.loop-n.n =
-    entry_range _ _ (sym c.is_entry.ensures ∙ not-false _ (ap not c.if-not-is_entry.false)) in
+    entry_range _ _ (sym c.is_entry.ensures ∙ c.if-not-is_entry.false) in
     omega (arith, in-range.id)
 
 pub loop-n-preserved : goal.loop-n-preserved
 unfolding floor_of
 loop-n-preserved c =
     let in-range : EntryRange c.args.listing.now c.loop-n.n =
-    entry_range _ _ (sym c.is_entry.ensures ∙ not-false _ (ap not c.if-not-is_entry.false)) in
+    entry_range _ _ (sym c.is_entry.ensures ∙ c.if-not-is_entry.false) in
     let l = c.loop-n in
     rw (add-one l.n) (rise_more _ l.n l.invariant.0 in-range (omega (arith, c.if-id-floor.false, l.invariant.1)), omega arith)
 

@@ -11,14 +11,14 @@ use Rattle.board.proofs.changing.change_image.Goals as goal
 pub returns-then-not-are_sound : goal.returns-then-not-are_sound
 returns-then-not-are_sound c =
     let h = held c.args.image.now _ _ _ _ _ _ c.request_of-first.ensures c.length_of-size.ensures c.owners_of-owners.ensures c.base_of-base.ensures c.columns_of.ensures c.starts_of-starts.ensures in
-    change_unsound c.args.image.now c.requires _ refl c.args.request.now c.args.area.now (refused _ _ (c.are_sound.ensures ∙ ap is_sound h) (ap not c.if-not-are_sound.true))
+    change_unsound c.args.image.now c.requires _ refl c.args.request.now c.args.area.now (refused _ _ (c.are_sound.ensures ∙ ap is_sound h) c.if-not-are_sound.true)
 
 pub change_sound-requires : goal.change_sound-requires
 change_sound-requires c =
     let h = held c.args.image.now _ _ _ _ _ _ c.request_of-first.ensures c.length_of-size.ensures c.owners_of-owners.ensures c.base_of-base.ensures c.columns_of.ensures c.starts_of-starts.ensures in (
       c.requires,
       record {
-        sound = passed _ _ (c.are_sound.ensures ∙ ap is_sound h) (ap not c.if-not-are_sound.false);
+        sound = passed _ _ (c.are_sound.ensures ∙ ap is_sound h) c.if-not-are_sound.false;
         base_is = sym (ap (λ (x : Timetable). x.base) h);
         entries_are = sym (ap (λ (x : Timetable). x.entries) h);
       },

@@ -32,7 +32,7 @@ returns-then-not-is_listing c =
     (listed_is _ _ _ _
     (ListedRead.high
     (ListedForm.long long)
-    (rw (sym c.is_listing.ensures ∙ not-true _ (ap not c.if-not-is_listing.true))))))
+    (rw (sym c.is_listing.ensures ∙ c.if-not-is_listing.true)))))
 
 pub returns-then-not-is_bound : goal.returns-then-not-is_bound
 returns-then-not-is_bound c =
@@ -43,8 +43,8 @@ returns-then-not-is_bound c =
     (listed_is _ _ _ _
     (ListedRead.high
     (ListedForm.long long)
-    (ap₂ ◌&&◌ (sym c.is_listing.ensures ∙ not-false _ (ap not c.if-not-is_listing.false))
-    (ap is_bound (sym c.content_at-bound.ensures) ∙ sym c.is_bound.ensures ∙ not-true _ (ap not c.if-not-is_bound.true))))))
+    (ap₂ ◌&&◌ (sym c.is_listing.ensures ∙ c.if-not-is_listing.false)
+    (ap is_bound (sym c.content_at-bound.ensures) ∙ sym c.is_bound.ensures ∙ c.if-not-is_bound.true)))))
 
 pub overflow_add-at : goal.overflow_add-at
 overflow_add-at c =
@@ -59,8 +59,8 @@ listed_as-requires c =
     let long-range : is_listing c.args.s.now c.args.c.at
     && is_bound (content_at c.args.s.now c.args.c.at 2)
     ≡ true =
-    ap₂ ◌&&◌ (sym c.is_listing.ensures ∙ not-false _ (ap not c.if-not-is_listing.false))
-    (ap is_bound (sym c.content_at-bound.ensures) ∙ sym c.is_bound.ensures ∙ not-false _ (ap not c.if-not-is_bound.false)) in
+    ap₂ ◌&&◌ (sym c.is_listing.ensures ∙ c.if-not-is_listing.false)
+    (ap is_bound (sym c.content_at-bound.ensures) ∙ sym c.is_bound.ensures ∙ c.if-not-is_bound.false) in
     let p = long in
     (omega (arith, (field_inside _ _ 3 3 p).0), (listed_range _ _ (ListedForm.long p) long-range).k_range)
 
@@ -71,8 +71,8 @@ returns-then-is_field c =
     let long-range : is_listing c.args.s.now c.args.c.at
     && is_bound (content_at c.args.s.now c.args.c.at 2)
     ≡ true =
-    ap₂ ◌&&◌ (sym c.is_listing.ensures ∙ not-false _ (ap not c.if-not-is_listing.false))
-    (ap is_bound (sym c.content_at-bound.ensures) ∙ sym c.is_bound.ensures ∙ not-false _ (ap not c.if-not-is_bound.false)) in
+    ap₂ ◌&&◌ (sym c.is_listing.ensures ∙ c.if-not-is_listing.false)
+    (ap is_bound (sym c.content_at-bound.ensures) ∙ sym c.is_bound.ensures ∙ c.if-not-is_bound.false) in
     c.listed_as.ensures
     ∙ rw c.content_at-bound.ensures
     (sym (listed_tested _ _ _ (ListedForm.long long) long-range))
@@ -85,12 +85,12 @@ returns-then-not-is_field c =
     (sym
     (listed_is _ _ _ _
     (ListedRead.wrong not-long
-    (sym c.is_field-2.ensures ∙ not-true _ (ap not c.if-not-is_field.true)))))
+    (sym c.is_field-2.ensures ∙ c.if-not-is_field.true))))
 
 pub is_listing-requires-2 : goal.is_listing-requires-2
 is_listing-requires-2 c =
     let short : is_field c.args.s.now c.args.c.at 3 2 ≡ true =
-    sym c.is_field-2.ensures ∙ not-false _ (ap not c.if-not-is_field.false) in
+    sym c.is_field-2.ensures ∙ c.if-not-is_field.false in
     omega (arith, (field_inside _ _ 3 2 short).0)
 
 pub returns-then-not-is_listing-2 : goal.returns-then-not-is_listing-2
@@ -98,18 +98,18 @@ returns-then-not-is_listing-2 c =
     let not-long : is_field c.args.s.now c.args.c.at 3 3 ≡ false =
     sym c.is_field.ensures ∙ c.if-is_field.false in
     let short : is_field c.args.s.now c.args.c.at 3 2 ≡ true =
-    sym c.is_field-2.ensures ∙ not-false _ (ap not c.if-not-is_field.false) in
+    sym c.is_field-2.ensures ∙ c.if-not-is_field.false in
     rw c.of-then-not-is_listing-2.ensures
     (sym
     (listed_is _ _ _ _
     (ListedRead.high
     (ListedForm.short not-long short)
-    (sym c.is_listing-2.ensures ∙ not-true _ (ap not c.if-not-is_listing-2.true)))))
+    (sym c.is_listing-2.ensures ∙ c.if-not-is_listing-2.true))))
 
 pub overflow_add-at-2 : goal.overflow_add-at-2
 overflow_add-at-2 c =
     let short : is_field c.args.s.now c.args.c.at 3 2 ≡ true =
-    sym c.is_field-2.ensures ∙ not-false _ (ap not c.if-not-is_field.false) in
+    sym c.is_field-2.ensures ∙ c.if-not-is_field.false in
     omega (arith, (field_inside _ _ 3 2 short).0)
 
 pub listed_as-requires-2 : goal.listed_as-requires-2
@@ -117,10 +117,10 @@ listed_as-requires-2 c =
     let not-long : is_field c.args.s.now c.args.c.at 3 3 ≡ false =
     sym c.is_field.ensures ∙ c.if-is_field.false in
     let short : is_field c.args.s.now c.args.c.at 3 2 ≡ true =
-    sym c.is_field-2.ensures ∙ not-false _ (ap not c.if-not-is_field.false) in
+    sym c.is_field-2.ensures ∙ c.if-not-is_field.false in
     let short-range : is_listing c.args.s.now c.args.c.at
     ≡ true =
-    sym c.is_listing-2.ensures ∙ not-false _ (ap not c.if-not-is_listing-2.false) in
+    sym c.is_listing-2.ensures ∙ c.if-not-is_listing-2.false in
     let q = short in (
       omega (arith, (field_inside _ _ 3 2 q).0),
       (listed_range _ _ (ListedForm.short not-long q) short-range).k_range,
@@ -131,10 +131,10 @@ returns c =
     let not-long : is_field c.args.s.now c.args.c.at 3 3 ≡ false =
     sym c.is_field.ensures ∙ c.if-is_field.false in
     let short : is_field c.args.s.now c.args.c.at 3 2 ≡ true =
-    sym c.is_field-2.ensures ∙ not-false _ (ap not c.if-not-is_field.false) in
+    sym c.is_field-2.ensures ∙ c.if-not-is_field.false in
     let short-range : is_listing c.args.s.now c.args.c.at
     ≡ true =
-    sym c.is_listing-2.ensures ∙ not-false _ (ap not c.if-not-is_listing-2.false) in
+    sym c.is_listing-2.ensures ∙ c.if-not-is_listing-2.false in
     c.listed_as-2.ensures
     ∙ sym
     (listed_tested _ _ _ (ListedForm.short not-long short)

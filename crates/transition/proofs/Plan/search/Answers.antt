@@ -32,12 +32,12 @@ longer-requires c = (
 pub returns-then-not-longer : goal.returns-then-not-longer
 returns-then-not-longer c =
     stands_missed c.loop-n.invariant c.place.result c.place.new.self c.place.ensures.settled c.if-place.false
-    c.loop-n-test.true c.longer.result c.longer.new.self c.longer.ensures (not-true _ (ap not c.if-not-longer.true))
+    c.loop-n-test.true c.longer.result c.longer.new.self c.longer.ensures c.if-not-longer.true
 
 pub loop-n-preserved : goal.loop-n-preserved
 loop-n-preserved c =
     stands_on c.loop-n.invariant c.place.result c.place.new.self c.place.ensures.settled c.if-place.false
-    c.loop-n-test.true c.longer.result c.longer.new.self c.longer.ensures (not-false _ (ap not c.if-not-longer.false)) _ _ c.place.ensures.ranked
+    c.loop-n-test.true c.longer.result c.longer.new.self c.longer.ensures c.if-not-longer.false _ _ c.place.ensures.ranked
 
 pub place-requires-2 : goal.place-requires-2
 place-requires-2 c = record { listing = c.loop-n.invariant.listing; ready = c.loop-n.invariant.ready }
