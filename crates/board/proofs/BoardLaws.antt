@@ -1,30 +1,27 @@
 -- What each exported function returns and leaves, from its test of the image's length and the answer that it got. Assumes nothing.
 use borrow.Author.Tests.{eq-eqb, ne_eqb}
-use lib.ListN.{length, replicate}
+use lib.ListN.{length}
 use lib.Seq.{sets}
-use mathlib.Core.Bool.{false}
 use mathlib.Core.List.{List}
 use mathlib.Core.Logic.{◌≢◌}
 use mathlib.Core.Path.{◌≡◌, refl, sym, ap, ◌∙◌}
 use native.Mathlib.Omega.{arith}
 use Prim.Native.Nat.{ℕ}
+use Rattle.std.specs.Prelude.{Err, Ok}
 use Rattle.board.specs.Image.{Changed, IMAGE, OwnerTold, StandingTold, area_after_image, empty_image, empty_number, image_after, image_answer, image_of, image_owner, image_standing, timetable_at}
-use Rattle.change.proofs.DecideLaws.{record_decided}
-use Rattle.change.proofs.Passing.{answer_unsound}
 use Rattle.change.specs.Change.{answer, record_of, refuse, written}
-use Rattle.change.specs.Columns.{Decides, decided_record}
 use Rattle.change.specs.declared.Answer.{Answer}
-use Rattle.change.specs.declared.Decided.{Decided}
+use Rattle.change.specs.declared.Granted.{Granted}
+use Rattle.change.specs.declared.Refused.{Refused}
 use Rattle.change.specs.declared.OwnerAnswer.{OwnerAnswer}
 use Rattle.change.specs.declared.StandingAnswer.{StandingAnswer}
+use Rattle.change.specs.Told.{told as told_of}
 use Rattle.change.specs.Queries.{owner_query, standing_query}
 use Rattle.numbers.specs.Numbers.{ACCEPTED, NOT_SOUND, refusal}
+use Rattle.records.specs.Answer.{answer_record}
 use Rattle.slots.specs.Clocks.{core_slot}
-use Rattle.slots.specs.Limits.{IDS, LONGEST}
-use Rattle.timetable.proofs.ColumnLaws.{columns_empty}
-use Rattle.timetable.specs.Columns.{of_columns}
 use Rattle.timetable.specs.declared.Timetable.{Timetable}
-use Rattle.timetable.specs.Sound.{is_sound}
+use Rattle.timetable.specs.Timetable.{empty_timetable}
 
 -- What a request gets, told: with its answer, and the image left.
 told : (image request area after : List ℕ) (a : Answer) → image_answer image request (length area) ≡ a → after ≡ image_after image request (length area)
@@ -86,10 +83,10 @@ module _ (image : List ℕ) (n : length image ≢ IMAGE) where
 -- An image: the answer on the timetable that it holds.
 module _ (image : List ℕ) (e : length image ≡ IMAGE) where
   pub empty_made : (after : List ℕ)
-      → after ≡ image_of (of_columns (core_slot 0) 0 (replicate LONGEST 0) (core_slot 0) (replicate IDS 0) (replicate IDS 0) (replicate IDS 0) (replicate IDS 0) (replicate IDS 0))
+      → after ≡ image_of empty_timetable
       → (ACCEPTED ≡ empty_number image) × (after ≡ empty_image image)
   unfolding empty_number empty_image
-  empty_made after p = rw (eq-eqb _ _ e, p, of_columns, columns_empty) (refl, refl)
+  empty_made after p = rw (eq-eqb _ _ e, p) (refl, refl)
 
   module _ (t : Timetable) (h : t ≡ timetable_at image) where
     pub owner_told : (slot : ℕ) (a : OwnerAnswer) → a ≡ owner_query t (core_slot slot) → OwnerTold (image_owner image slot) a.number a.place a.owner
@@ -106,41 +103,24 @@ module _ (image : List ℕ) (e : length image ≡ IMAGE) where
       gets : image_answer image request (length area) ≡ answer t request (length area)
       gets = answer_held image request (length area) e ∙ ap (λ (x : Timetable). answer x request (length area)) (sym h)
 
-      -- A timetable that is not sound leaves every byte.
-      pub change_unsound : is_sound t ≡ false → Changed image request area NOT_SOUND 0 0 0 image area
+      -- A request that is granted, with its record written, leaves the image of the new timetable.
+      pub change_granted : (g : Granted) → told_of t (Ok g) ≡ answer t request (length area) → (bytes : ℕ) (after area_told : List ℕ)
+          → after ≡ image_of g.timetable
+          → (bytes ≡ length (answer_record g.timetable.length g.timetable.owners g.timetable.entries)) × (area_told ≡ sets area 0 (answer_record g.timetable.length g.timetable.owners g.timetable.entries))
+          → Changed image request area ACCEPTED 0 g.tries bytes after area_told
       unfolding record_of
-      change_unsound u =
-          let g = gets ∙ answer_unsound t request (length area) _ refl u in
-          told image request area image (refuse t (refusal NOT_SOUND 0)) g
-          (sym (after_refused image request (length area) (λ z. omega (arith, z, ap (λ (x : Answer). x.number) g))))
+      change_granted g k bytes after area_told i w =
+          let a = gets ∙ sym k in
+          rw (w.0, w.1)
+          (told image request area after (told_of t (Ok g)) a
+          (i ∙ sym (after_accepted image request (length area) (ap (λ (x : Answer). x.number) a) ∙ ap (λ (x : Answer). image_of x.timetable) a)))
 
-      module _ (d : Decided) (owners periods bounds shortfalls starts : List ℕ)
-          (k : Decides (answer t request (length area)) d owners periods bounds shortfalls starts) where
-        -- What was decided, with its record written, and the image left.
-        left : (bytes : ℕ) (after area_told : List ℕ) → after ≡ image_after image request (length area)
-            → (bytes ≡ length (decided_record d owners periods)) × (area_told ≡ sets area 0 (decided_record d owners periods))
-            → Changed image request area d.number d.place d.tries bytes after area_told
-        left bytes after area_told i w =
-            let r = record_decided d owners periods _ bounds shortfalls starts k in
-            rw (k.number, k.place, k.tries, w.0 ∙ ap (λ (x : List ℕ). length x) r, w.1 ∙ ap (sets area 0) r)
-            (told image request area after (answer t request (length area)) gets i)
-
-        -- The image of the new timetable, or every byte as it was.
-        pub change_accepted : d.number ≡ ACCEPTED → (bytes : ℕ) (after area_told : List ℕ)
-            → after ≡ image_of (of_columns d.slot d.length owners d.base periods d.offsets bounds shortfalls starts)
-            → (bytes ≡ length (decided_record d owners periods)) × (area_told ≡ sets area 0 (decided_record d owners periods))
-            → Changed image request area d.number d.place d.tries bytes after area_told
-        change_accepted a bytes after area_told i w =
-            left bytes after area_told
-            (i ∙ sym (ap image_of (k.in_force_lem (sym k.number ∙ a)))
-            ∙ sym (after_accepted image request (length area) (ap (λ (x : Answer). x.number) gets ∙ sym k.number ∙ a)
-            ∙ ap (λ (x : Answer). image_of x.timetable) gets))
-            w
-
-        pub change_refused : d.number ≢ ACCEPTED → (bytes : ℕ) (area_told : List ℕ)
-            → (bytes ≡ length (decided_record d owners periods)) × (area_told ≡ sets area 0 (decided_record d owners periods))
-            → Changed image request area d.number d.place d.tries bytes image area_told
-        change_refused n bytes area_told w =
-            left bytes image area_told
-            (sym (after_refused image request (length area) (λ z. n (k.number ∙ sym (ap (λ (x : Answer). x.number) gets) ∙ z))))
-            w
+      -- One that is refused leaves every byte.
+      pub change_refused : (r : Refused) → told_of t (Err r) ≡ answer t request (length area) → r.refusal.number ≢ ACCEPTED
+          → Changed image request area r.refusal.number r.refusal.place r.tries 0 image area
+      unfolding record_of
+      change_refused r k n =
+          let a = gets ∙ sym k in
+          let b = told image request area image (told_of t (Err r)) a
+          (sym (after_refused image request (length area) (λ z. n (sym (ap (λ (x : Answer). x.number) a) ∙ z)))) in
+          (rw (ne_eqb _ _ n) at b)

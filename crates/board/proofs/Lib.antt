@@ -1,3 +1,4 @@
+pub mod Mapped
 pub mod StoreLaws
 pub mod ScheduleLaws
 pub mod HeldLaws

@@ -1,32 +1,19 @@
--- An area after a run of stores: a byte for each id one behind the other, and the whole schedule. Assumes nothing.
-use lib.ListN.{drop, get_or, length, length-append, length-map, get_or-append, get_or-map, set, take}
-use lib.Seq.{get_or-append-add, length-sets, sets, take_all}
+-- An area after a run of stores, the whole schedule, and what stands where in it. Assumes nothing.
+use lib.ListN.{drop, get_or, length, length-append, length-map, get_or-append, get_or-map, set}
+use lib.Seq.{get_or-append-add, length-sets, sets}
 use mathlib.Core.List.{List, [], ◌∷◌, ◌++◌, append_assoc, map}
-use mathlib.Core.Path.{◌≡◌, refl, sym, ap, ◌∙◌}
+use mathlib.Core.Path.{◌≡◌, refl, ap, ◌∙◌}
 use native.Mathlib.Omega.{arith}
 use Prim.Native.Nat.{ℕ, ◌+◌, ◌≤◌, ◌<◌}
-use Rattle.archive.specs.AnswerRead.{no_offset, id_offset}
-use Rattle.archive.specs.declared.IdOffset.{IdOffset}
+use Rattle.archive.specs.AnswerRead.{no_offset}
 use Rattle.archive.specs.declared.Schedule.{Schedule}
 use Rattle.board.specs.Archive.{LISTED_AT, OFFSETS_AT, SCHEDULE, ScheduleStands, listed_byte, offset_byte, schedule_bytes}
-use Rattle.records.proofs.SetsLaws.{sets_front, sets_next, sets_rest, sets_then}
+use Rattle.records.proofs.SetsLaws.{sets_front, sets_rest, sets_then}
 use Rattle.slots.specs.Limits.{IDS, LONGEST}
-
-module _ (f : IdOffset → ℕ) (none : f no_offset ≡ 0) (l : List ℕ) (at : ℕ) (ps : List IdOffset) where
-  -- The byte of one id more.
-  pub byte_next : (m : List ℕ) (n v : ℕ) → n < length ps → m ≡ sets l at (take n (map f ps)) → v ≡ f (id_offset ps n)
-      → set m (at + n) v ≡ sets l at (take (n + 1) (map f ps))
-  byte_next m n v h e p =
-      let q : get_or (map f ps) n 0 ≡ v = ap (get_or (map f ps) n) (sym none) ∙ get_or-map f ps n no_offset ∙ sym p in
-      rw (e, sym q) (sets_next l (map f ps) at n (omega (arith, length-map ps f)))
-
-  -- The bytes of all ids.
-  pub bytes_all : (m : List ℕ) (n : ℕ) → length ps ≤ n → m ≡ sets l at (take n (map f ps)) → m ≡ sets l at (map f ps)
-  bytes_all m n h e = e ∙ ap (sets l at) (take_all n (map f ps) (omega (arith, length-map ps f)))
 
 -- The parts stored one behind the other are the schedule.
 pub schedule_stored : (x : Schedule) → length x.owners ≡ LONGEST → length x.offsets ≡ IDS → (l a b d : List ℕ)
-    → a ≡ sets (set l 0 x.length) 1 (take LONGEST x.owners) → b ≡ sets a LISTED_AT (map listed_byte x.offsets)
+    → a ≡ sets (set l 0 x.length) 1 x.owners → b ≡ sets a LISTED_AT (map listed_byte x.offsets)
     → d ≡ sets b OFFSETS_AT (map offset_byte x.offsets) → d ≡ sets l 0 (schedule_bytes x)
 unfolding schedule_bytes
 schedule_stored x os ps l a b d pa pb pd =
@@ -35,8 +22,7 @@ schedule_stored x os ps l a b d pa pb pd =
     let i = map listed_byte x.offsets in
     let j = map offset_byte x.offsets in
     let ni = length-map x.offsets listed_byte in
-    let w : take LONGEST o ≡ o = take_all LONGEST o (omega arith) in
-    let p : a ≡ sets l 0 (h ++ o) = pa ∙ ap (sets (set l 0 x.length) 1) w in
+    let p : a ≡ sets l 0 (h ++ o) = pa in
     let q : b ≡ sets l 0 ((h ++ o) ++ i) = pb ∙ rw p (sets_then l 0 LISTED_AT (h ++ o) i (omega arith)) in
     let r : d ≡ sets l 0 (((h ++ o) ++ i) ++ j) =
     pd ∙ rw q (sets_then l 0 OFFSETS_AT ((h ++ o) ++ i) j (omega (arith, length-append (h ++ o) i))) in

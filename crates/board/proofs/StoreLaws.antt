@@ -1,12 +1,16 @@
--- An image after a run of stores: an entry, the bytes of the ids one behind the other, the whole image. Assumes nothing.
+-- An image after a run of stores: a part, the bytes of the ids one behind the other, the whole image. Assumes nothing.
+use borrow.Rule.Slice.PartMut.{put_mid}
 use lib.ListN.{drop, get_or, length, length-append, set, take}
-use lib.Seq.{drop_at, sets, take_all}
-use mathlib.Core.List.{List, [], ◌∷◌, ◌++◌, append_assoc}
-use mathlib.Core.Path.{◌≡◌, refl, sym, ap, ◌∙◌}
+use lib.Seq.{drop_at, drop-drop, sets, sets-eq, take_all, take-suc}
+use mathlib.Core.List.{List, [], ◌∷◌, ◌++◌, append_assoc, append-nil}
+use mathlib.Core.Path.{◌≡◌, refl, sym, ap, ap₂, ◌∙◌}
 use native.Mathlib.Nat.{mul-suc, mul-zero}
-use native.Mathlib.Numerals.{add-one}
 use native.Mathlib.Omega.{arith}
-use Prim.Native.Nat.{ℕ, zero, suc, ◌+◌, ◌-◌, ◌*◌, ◌<◌}
+use Prim.Native.Nat.{ℕ, zero, suc, ◌+◌, ◌-◌, ◌*◌, ◌<◌, ◌≤◌}
+use Rattle.std.proofs.Math.Nat.{div-div-eq-div-mul}
+use Rattle.std.proofs.lemmas.List.Concat.{flat_map-append}
+use Rattle.std.specs.Int.{to_be_bytes, w64}
+use Rattle.std.specs.List.{flat_map}
 use Rattle.board.specs.Image.{BASE_AT, ENTRIES_AT, ENTRY, IMAGE, LENGTH_AT, OWNERS_AT, START, STARTS_AT, entries_bytes, entry_bytes, image_of, starts_bytes}
 use Rattle.records.proofs.FieldStands.{number_length}
 use Rattle.records.proofs.RisingLaws.{rising_split, rising_from}
@@ -18,17 +22,32 @@ use Rattle.timetable.specs.declared.Entry.{Entry}
 use Rattle.timetable.specs.declared.Timetable.{Timetable}
 use Rattle.timetable.specs.Timetable.{entry_of}
 
--- The six bytes of an entry, one behind the other.
-pub entry_stored : (l a d : List ℕ) (at : ℕ) (e : Entry) → a ≡ sets l at (number_bytes e.period 2)
-    → d ≡ sets (set (set a (at + 2) e.offset) (at + 3) e.bound) (at + 4) (number_bytes e.shortfall 2)
-    → d ≡ sets l at (entry_bytes e)
-unfolding entry_bytes number_bytes
-entry_stored l a d at e pa pd =
-    let p = number_bytes e.period 2 in
-    let x : set a (at + 2) e.offset ≡ sets l at (p ++ e.offset ∷ []) = rw pa (set_then l at (at + 2) p e.offset refl) in
-    let y : set (set a (at + 2) e.offset) (at + 3) e.bound ≡ sets l at (p ++ e.offset ∷ e.bound ∷ []) =
-    rw x (set_then l at (at + 3) (p ++ e.offset ∷ []) e.bound refl) in
-    pd ∙ rw y (sets_then l at (at + 4) (p ++ e.offset ∷ e.bound ∷ []) (number_bytes e.shortfall 2) refl)
+-- What is written to a part of a list is stored byte by byte.
+pub part_stored : (l vs ws : List ℕ) (at k : ℕ) → ws ≡ vs → k ≡ length vs → at + length vs ≤ length l → put_mid at k l ws ≡ sets l at vs
+part_stored l vs ws at k e n h =
+    rw (e, n) (ap (λ (z : List ℕ). take at l ++ (vs ++ z)) (drop-drop (length vs) at l)
+    ∙ sym (append_assoc (take at l) vs (drop (at + length vs) l)) ∙ sym (sets-eq vs l at h))
+
+-- A slot's bytes, high byte first.
+pub slot_bytes : (n : ℕ) → to_be_bytes w64 n ≡ number_bytes n 8
+unfolding number_bytes
+slot_bytes n = simp div-div-eq-div-mul
+
+-- Bytes that are made id by id, one behind the other.
+rising_made : (f : ℕ → List ℕ) (bs : List (List ℕ)) (n : ℕ) → n ≤ length bs → ((i : ℕ) → i < n → get_or bs i [] ≡ f i)
+    → flat_map (λ x. x) (take n bs) ≡ rising f n
+unfolding rising
+rising_made f bs zero h each = refl
+rising_made f bs (suc n) h each =
+    ap (flat_map (λ x. x)) (take-suc bs n [] (omega arith))
+    ∙ flat_map-append (λ x. x) (take n bs) (get_or bs n [] ∷ [])
+    ∙ ap₂ ◌++◌ (rising_made f bs n (omega arith) (λ i k. each i (omega arith))) (append-nil (get_or bs n []) ∙ each n (omega arith))
+
+-- All of them.
+pub all_made : (f : ℕ → List ℕ) (bs : List (List ℕ)) (n : ℕ) → length bs ≡ n → ((i : ℕ) → i < n → (d : List ℕ) → get_or bs i d ≡ f i)
+    → flat_map (λ x. x) bs ≡ rising f n
+all_made f bs n e each =
+    ap (flat_map (λ x. x)) (sym (take_all n bs (omega arith))) ∙ rising_made f bs n (omega arith) (λ i h. each i h [])
 
 -- An entry has six bytes.
 pub entry_length : (e : Entry) → length (entry_bytes e) ≡ ENTRY
@@ -46,16 +65,6 @@ module _ (f : ℕ → List ℕ) (size : ℕ) (each : (i : ℕ) → length (f i) 
   unfolding rising
   rising_length zero = sym (mul-zero size)
   rising_length (suc n) = simp length-append (omega (arith, rising_length n, each n, mul-suc size n))
-
-  -- One id more.
-  pub rising_next : (l m k : List ℕ) (at here n : ℕ) → here ≡ at + size * n → m ≡ sets l at (rising f n) → k ≡ sets m here (f n)
-      → k ≡ sets l at (rising f (n + 1))
-  unfolding rising
-  rising_next l m k at here n p pm pk =
-      pk
-      ∙ ap (λ (x : List ℕ). sets x here (f n)) pm
-      ∙ sets_then l at here (rising f n) (f n) (omega (arith, rising_length n))
-      ∙ ap (λ (x : ℕ). sets l at (rising f x)) (sym (add-one n))
 
   -- Between other bytes those of an id stand behind those of the lower ids.
   pub rising_stands : (s front back : List ℕ) (at n i : ℕ) → s ≡ front ++ (rising f n ++ back) → length front ≡ at → i < n
@@ -87,7 +96,7 @@ module _ (t : Timetable) (all : length t.owners ≡ LONGEST) where
 
   -- The fields stored one behind the other are the image.
   pub image_stored : (l a b d e g : List ℕ) → length l ≡ IMAGE → a ≡ sets l 0 (number_bytes t.request.0 8)
-      → b ≡ sets (set a LENGTH_AT t.length) OWNERS_AT (take LONGEST t.owners) → d ≡ sets b BASE_AT (number_bytes t.base.0 8)
+      → b ≡ sets (set a LENGTH_AT t.length) OWNERS_AT t.owners → d ≡ sets b BASE_AT (number_bytes t.base.0 8)
       → e ≡ sets d ENTRIES_AT (entries_bytes t.entries IDS) → g ≡ sets e STARTS_AT (starts_bytes t.starts IDS) → g ≡ image_of t
   unfolding image_of
   image_stored l a b d e g len pa pb pd pe pg =
@@ -99,10 +108,9 @@ module _ (t : Timetable) (all : length t.owners ≡ LONGEST) where
       let nr = number_length t.request.0 8 in
       let ns = number_length t.base.0 8 in
       let ne = entries_length t.entries IDS in
-      let w : take LONGEST o ≡ o = take_all LONGEST o (omega arith) in
       let x : set a LENGTH_AT t.length ≡ sets l 0 (r ++ t.length ∷ []) = rw pa (set_then l 0 LENGTH_AT r t.length (omega arith)) in
       let y : b ≡ sets l 0 ((r ++ t.length ∷ []) ++ o) =
-      pb ∙ rw (x, w) (sets_then l 0 OWNERS_AT (r ++ t.length ∷ []) o (omega (arith, length-append r (t.length ∷ [])))) in
+      pb ∙ rw x (sets_then l 0 OWNERS_AT (r ++ t.length ∷ []) o (omega (arith, length-append r (t.length ∷ [])))) in
       let z : d ≡ sets l 0 (((r ++ t.length ∷ []) ++ o) ++ s) =
       pd ∙ rw y (sets_then l 0 BASE_AT ((r ++ t.length ∷ []) ++ o) s (simp length-append (omega arith))) in
       let v : e ≡ sets l 0 ((((r ++ t.length ∷ []) ++ o) ++ s) ++ es) =

@@ -1,21 +1,24 @@
 // The library as a C program on the board calls it. A timetable is an image of 337 bytes, and each function returns a number of docs/RULES.md 7.1.
 #![tactic(auto)]
 
-ghost use Rattle.std.specs.Prelude.{◌≡◌};
+ghost use Rattle.std.specs.Prelude.{IfErr, ◌≡◌, ◌≢◌};
 ghost use Rattle.archive.specs.AnswerRead.{field_at};
 ghost use Rattle.board.specs.Archive.{AnswerTold, FieldTold, RequestTold};
 ghost use Rattle.board.specs.Image.{Changed, OwnerTold, StandingTold, empty_image, empty_number, image_owner, image_standing};
+ghost use Rattle.change.specs.Change.{answer};
+ghost use Rattle.change.specs.Told.{told};
+ghost use Rattle.numbers.specs.Numbers.{ACCEPTED};
 
 use archive::AnswerField;
+use change::queries::{owner_query, standing_query};
+use change::{Granted, Refused, grant};
 use numbers::Refusal;
 use records::Reading;
-use records::write::{LENGTH_TAG, OFFSET_TAG, OWNERS_TAG};
+use records::write::{LENGTH_TAG, OFFSET_TAG, OWNERS_TAG, write_answer};
 use slots::CoreSlot;
 use timetable::Timetable;
 
-mod changing; // changing.rt: the change of an image by a request
 mod image; // image.rt: reading and writing an image
-mod querying; // querying.rt: the two queries on an image
 mod schedule; // schedule.rt: writing what an answer says
 
 // An image has this many bytes. Fewer or more are no sound timetable.
@@ -28,24 +31,10 @@ pub const SCHEDULE: usize = 129;
 pub fn tarnflaw_empty(image: &mut [u8]) -> u8
     ensures { (result ≡ empty_number image.old) × (image.new ≡ empty_image image.old) }
 {
-    if image.len() != IMAGE {
+    let Some(image) = image.as_mut_array() else {
         return Refusal::NOT_SOUND;
-    }
-    let owners: [u8; Timetable::LONGEST] = [0; Timetable::LONGEST];
-    let bytes: [u8; Timetable::IDS] = [0; Timetable::IDS];
-    let shorts: [u16; Timetable::IDS] = [0; Timetable::IDS];
-    image::put_image(
-        image,
-        CoreSlot(0),
-        0,
-        &owners,
-        CoreSlot(0),
-        &shorts,
-        &bytes,
-        &bytes,
-        &shorts,
-        &shorts,
-    );
+    };
+    image::put_image(image, &Timetable::empty());
     Refusal::ACCEPTED
 }
 
@@ -60,29 +49,48 @@ pub fn tarnflaw_change(
 ) -> u8
     ensures { Changed image.old request.now area.old result place.new tries.new written.new image.new area.new }
 {
-    if image.len() != IMAGE {
-        *place = 0;
-        *tries = 0;
-        *written = 0;
+    *place = 0;
+    *tries = 0;
+    *written = 0;
+    let Some(image) = image.as_mut_array() else {
         return Refusal::NOT_SOUND;
+    };
+    match decide(&image::timetable_of(image), request, area.len()) {
+        Ok(granted) => {
+            image::put_image(image, &granted.timetable);
+            *tries = granted.tries;
+            *written = write_answer(area, &granted.timetable);
+            Refusal::ACCEPTED
+        }
+        Err(refused) => {
+            *place = refused.refusal.place;
+            *tries = refused.tries;
+            refused.refusal.number
+        }
     }
-    let told = changing::change_image(image, request, area);
-    *place = told.place;
-    *tries = told.tries;
-    *written = told.written;
-    told.number
+}
+
+// What a request gets from a timetable of which nothing is known: one that is not sound is refused.
+fn decide(held: &Timetable, request: &[u8], area: usize) -> Result<Granted, Refused>
+    ensures told { told held.now result ≡ answer held.now request.now area }
+    ensures refused { IfErr result (λ r. r.refusal.number ≢ ACCEPTED) }
+{
+    let Some(sound) = held.sound() else {
+        return Err(Refused::from(Refusal::of(Refusal::NOT_SOUND, 0)));
+    };
+    grant(sound, request, area)
 }
 
 // The owner of a slot, or 255 for idle.
 pub fn tarnflaw_owner(image: &[u8], slot: u64, place: &mut usize, owner: &mut u8) -> u8
     ensures { OwnerTold (image_owner image.now slot) result place.new owner.new }
 {
-    if image.len() != IMAGE {
-        *place = 0;
-        *owner = 0;
+    *place = 0;
+    *owner = 0;
+    let Some(image) = image.as_array() else {
         return Refusal::NOT_SOUND;
-    }
-    let a = querying::owner_of_image(image, CoreSlot(slot));
+    };
+    let a = owner_query(&image::timetable_of(image), CoreSlot(slot));
     *place = a.place;
     *owner = a.owner;
     a.number
@@ -99,13 +107,13 @@ pub fn tarnflaw_standing(
 ) -> u8
     ensures { StandingTold (image_standing image.now id slot) result place.new shortfall.new slices.new }
 {
-    if image.len() != IMAGE {
-        *place = 0;
-        *shortfall = 0;
-        *slices = 0;
+    *place = 0;
+    *shortfall = 0;
+    *slices = 0;
+    let Some(image) = image.as_array() else {
         return Refusal::NOT_SOUND;
-    }
-    let a = querying::standing_of_image(image, id, CoreSlot(slot));
+    };
+    let a = standing_query(&image::timetable_of(image), id, CoreSlot(slot));
     *place = a.place;
     *shortfall = a.shortfall;
     *slices = a.slices.0;

@@ -1,8 +1,6 @@
--- The four fields, each from its place. Assumes nothing.
+-- The six bytes are those from the entry's place on. Assumes nothing.
+use Rattle.board.proofs.HeldLaws.{entry_read}
 use Rattle.board.proofs.image.entry_of.Goals as goal
 
 pub returns : goal.returns
-returns c =
-    let p = c.short_at.ensures in
-    let s = c.short_at-2.ensures in
-    rw (p, s)
+returns c = entry_read c.args.image.now _ c.bytes_at.result c.bytes_at.ensures _ _ c.from_be_bytes.ensures c.from_be_bytes-2.ensures

@@ -1,54 +1,31 @@
--- The fields are stored one behind the other, and no store changes the image's length. Assumes nothing.
-use lib.ListN.{length, length-set}
-use mathlib.Core.Path.{◌≡◌, ◌∙◌}
-use native.Mathlib.Omega.{arith}
-use Rattle.board.proofs.StoreLaws.{image_stored}
-use Rattle.timetable.specs.Columns.{of_columns}
+-- The fields are stored one behind the other. Assumes nothing.
+use borrow.Author.Rules.{rules}
+use lib.ListN.{length}
+use lib.Seq.{sets}
+use mathlib.Core.Path.{◌≡◌, ap, ◌∙◌}
+use Rattle.board.proofs.Mapped.{mapped_at}
+use Rattle.board.proofs.StoreLaws.{all_made, image_stored, slot_bytes}
+use Rattle.board.specs.Image.{entry_bytes}
+use Rattle.records.specs.Written.{number_bytes}
+use Rattle.slots.specs.Limits.{LONGEST}
+use Rattle.timetable.specs.Timetable.{entry_of, no_entry, start_of}
 use Rattle.board.proofs.image.put_image.Goals as goal
-
-pub put_owners-requires : goal.put_owners-requires
-put_owners-requires c =
-    simp length-set (omega (arith, c.requires))
-
-pub put_number-requires-2 : goal.put_number-requires-2
-put_number-requires-2 c =
-    let owners-put : length c.put_owners.new.area ≡ length c.args.image.now =
-    c.put_owners.auto.area ∙ simp length-set c.put_number.auto.area in
-    omega (arith, owners-put, c.requires.0)
-
-pub put_entries-requires : goal.put_entries-requires
-put_entries-requires c =
-    let owners-put : length c.put_owners.new.area ≡ length c.args.image.now =
-    c.put_owners.auto.area ∙ simp length-set c.put_number.auto.area in
-    let base-put : length c.put_number-2.new.area ≡ length c.args.image.now =
-    c.put_number-2.auto.area ∙ owners-put in
-    base-put ∙ c.requires.0
-
-pub put_starts-requires : goal.put_starts-requires
-put_starts-requires c =
-    let owners-put : length c.put_owners.new.area ≡ length c.args.image.now =
-    c.put_owners.auto.area ∙ simp length-set c.put_number.auto.area in
-    let base-put : length c.put_number-2.new.area ≡ length c.args.image.now =
-    c.put_number-2.auto.area ∙ owners-put in
-    let entries-put : length c.put_entries.new.image ≡ length c.args.image.now =
-    c.put_entries.auto.image ∙ base-put in
-    entries-put ∙ c.requires.0
 
 pub returns : goal.returns
 returns c =
-    let a = c.args in
-    image_stored
-    (of_columns a.request a.size a.owners.now a.base a.periods.now a.offsets.now a.bounds.now a.shortfalls.now a.starts.now)
-    c.requires.1
-    a.image.now
-    c.put_number.new.area
-    c.put_owners.new.area
-    c.put_number-2.new.area
-    c.put_entries.new.image
-    c.put_starts.new.image
-    c.requires.0
-    c.put_number.ensures
-    c.put_owners.ensures.1
-    c.put_number-2.ensures
-    c.put_entries.ensures
-    c.put_starts.ensures
+    let t = c.args.t.now in
+    let owners-count : length t.owners ≡ LONGEST =
+    search rules in
+    let entries =
+    all_made (λ i. entry_bytes (entry_of t.entries i)) _ 32 c.map.ensures.items.long
+    (λ i l. mapped_at _ _ _ _ _ c.map.ensures.items entry_bytes (λ x y q w. search rules) i l no_entry) in
+    let starts =
+    all_made (λ i. number_bytes (start_of t i) 2) _ 32 c.map-2.ensures.items.long
+    (λ i l. mapped_at _ _ _ _ _ c.map-2.ensures.items (λ n. number_bytes n 2) (λ x y q w. search rules) i l 0) in
+    image_stored t owners-count c.args.image.now c.put_bytes.new.image c.put_bytes-2.new.image c.put_bytes-3.new.image c.put_bytes-4.new.image c.put_bytes-5.new.image
+    c.told-image
+    (c.put_bytes.ensures ∙ ap (sets c.args.image.now 0) (c.to_be_bytes.ensures ∙ slot_bytes t.request.0))
+    c.put_bytes-2.ensures
+    (c.put_bytes-3.ensures ∙ ap (sets c.put_bytes-2.new.image 73) (c.to_be_bytes-2.ensures ∙ slot_bytes t.base.0))
+    (c.put_bytes-4.ensures ∙ ap (sets c.put_bytes-3.new.image 81) (c.as_flattened.ensures.value ∙ entries))
+    (c.put_bytes-5.ensures ∙ ap (sets c.put_bytes-4.new.image 273) (c.as_flattened-2.ensures.value ∙ starts))
