@@ -1,17 +1,13 @@
 // The library as a C program on the board calls it. A timetable is an image of 337 bytes, and each function returns a number of docs/RULES.md 7.1.
 #![tactic(auto)]
 
-ghost use Rattle.std.specs.Prelude.{IfErr, ◌≡◌, ◌≢◌};
+ghost use Rattle.std.specs.Prelude.{◌≡◌};
 ghost use Rattle.archive.specs.AnswerRead.{field_at};
 ghost use Rattle.board.specs.Archive.{AnswerTold, FieldTold, RequestTold};
 ghost use Rattle.board.specs.Image.{Changed, OwnerTold, StandingTold, empty_image, empty_number, image_owner, image_standing};
-ghost use Rattle.change.specs.Change.{answer};
-ghost use Rattle.change.specs.Told.{told};
-ghost use Rattle.numbers.specs.Numbers.{ACCEPTED};
 
 use archive::AnswerField;
 use change::queries::{owner_query, standing_query};
-use change::{Granted, Refused, grant};
 use numbers::Refusal;
 use records::Reading;
 use records::write::{LENGTH_TAG, OFFSET_TAG, OWNERS_TAG, write_answer};
@@ -55,7 +51,7 @@ pub fn tarnflaw_change(
     let Some(image) = image.as_mut_array() else {
         return Refusal::NOT_SOUND;
     };
-    match decide(&image::timetable_of(image), request, area.len()) {
+    match change::decided(&image::timetable_of(image), request, area.len()) {
         Ok(granted) => {
             image::put_image(image, &granted.timetable);
             *tries = granted.tries;
@@ -68,17 +64,6 @@ pub fn tarnflaw_change(
             refused.refusal.number
         }
     }
-}
-
-// What a request gets from a timetable of which nothing is known: one that is not sound is refused.
-fn decide(held: &Timetable, request: &[u8], area: usize) -> Result<Granted, Refused>
-    ensures told { told held.now result ≡ answer held.now request.now area }
-    ensures refused { IfErr result (λ r. r.refusal.number ≢ ACCEPTED) }
-{
-    let Some(sound) = held.sound() else {
-        return Err(Refused::from(Refusal::of(Refusal::NOT_SOUND, 0)));
-    };
-    grant(sound, request, area)
 }
 
 // The owner of a slot, or 255 for idle.

@@ -12,7 +12,7 @@ use slots::CoreSlot;
 use timetable::{Entry, SoundTimetable, Timetable};
 use transition::{Ending, Plan};
 
-// What a request gets from a timetable that is known to be sound. No byte of an area is touched. (Public for the board alone.)
+// What a request gets from a timetable that is known to be sound. No byte of an area is touched.
 pub fn grant(t: SoundTimetable, request: &[u8], area: usize) -> Result<Granted, Refused>
     ensures told { told t.entry.timetable.now result ≡ answer t.entry.timetable.now request.now area }
     ensures refused { IfErr result (λ r. r.refusal.number ≢ ACCEPTED) }

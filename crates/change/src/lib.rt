@@ -16,7 +16,7 @@ mod before; // before.rt: the stages before the search
 mod deciding; // deciding.rt: what a request gets from a timetable that is known to be sound
 pub mod queries; // queries.rt: the owner query and the standing query
 
-pub use deciding::grant;
+use deciding::grant;
 
 // What is decided of a request: a number of docs/RULES.md 7.1 and its place, the lengths searched, and the timetable in force from now on.
 #[derive(Clone, Copy)]
@@ -113,8 +113,8 @@ pub fn decide(t: &Timetable, request: &[u8], area: usize) -> Answer
     }
 }
 
-// What a request gets from any timetable: one that is not sound refuses it.
-fn decided(t: &Timetable, request: &[u8], area: usize) -> Result<Granted, Refused>
+// What a request gets from any timetable: one that is not sound refuses it. No byte of an area is touched. (Public for the board alone.)
+pub fn decided(t: &Timetable, request: &[u8], area: usize) -> Result<Granted, Refused>
     ensures told { told t.now result ≡ answer t.now request.now area }
     ensures refused { IfErr result (λ r. r.refusal.number ≢ ACCEPTED) }
 {
