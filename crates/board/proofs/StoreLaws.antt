@@ -5,6 +5,7 @@ use lib.Seq.{drop_at, drop-drop, sets, sets-eq, take_all, take-suc}
 use mathlib.Core.List.{List, [], ◌∷◌, ◌++◌, append_assoc, append-nil}
 use mathlib.Core.Path.{◌≡◌, refl, sym, ap, ap₂, ◌∙◌}
 use native.Mathlib.Nat.{mul-suc, mul-zero}
+use native.Mathlib.Numerals.{add-one}
 use native.Mathlib.Omega.{arith}
 use Prim.Native.Nat.{ℕ, zero, suc, ◌+◌, ◌-◌, ◌*◌, ◌<◌, ◌≤◌}
 use Rattle.std.proofs.Math.Nat.{div-div-eq-div-mul}
@@ -65,6 +66,16 @@ module _ (f : ℕ → List ℕ) (size : ℕ) (each : (i : ℕ) → length (f i) 
   unfolding rising
   rising_length zero = sym (mul-zero size)
   rising_length (suc n) = simp length-append (omega (arith, rising_length n, each n, mul-suc size n))
+
+  -- One id more.
+  pub rising_next : (l m k : List ℕ) (at here n : ℕ) → here ≡ at + size * n → m ≡ sets l at (rising f n) → k ≡ sets m here (f n)
+      → k ≡ sets l at (rising f (n + 1))
+  unfolding rising
+  rising_next l m k at here n p pm pk =
+      pk
+      ∙ ap (λ (x : List ℕ). sets x here (f n)) pm
+      ∙ sets_then l at here (rising f n) (f n) (omega (arith, rising_length n))
+      ∙ ap (λ (x : ℕ). sets l at (rising f x)) (sym (add-one n))
 
   -- Between other bytes those of an id stand behind those of the lower ids.
   pub rising_stands : (s front back : List ℕ) (at n i : ℕ) → s ≡ front ++ (rising f n ++ back) → length front ≡ at → i < n

@@ -1,7 +1,7 @@
 // The image of a timetable: the fields in the order of docs/RULES.md 10.1, numbers high byte first. Nothing here is refused.
 ghost use Rattle.std.specs.Prelude.{drop, length, take, ◌≡◌, ◌+◌, ◌*◌, ◌≤◌, ◌<◌};
 ghost use Rattle.std.proofs.lemmas.List.Edits.{sets};
-ghost use Rattle.board.specs.Image.{ENTRIES_AT, ENTRY, IMAGE, START, STARTS_AT, entry_at, entry_bytes, image_of, start_at, timetable_at};
+ghost use Rattle.board.specs.Image.{ENTRIES_AT, ENTRY, IMAGE, START, STARTS_AT, entries_bytes, entry_at, entry_bytes, image_of, start_at, timetable_at};
 ghost use Rattle.records.specs.Written.{number_bytes};
 ghost use Rattle.slots.specs.Limits.{IDS};
 
@@ -88,8 +88,17 @@ pub fn put_image(image: &mut [u8; IMAGE], t: &Timetable)
     image[LENGTH_AT] = t.length;
     put_bytes(image, OWNERS_AT, &t.owners);
     put_bytes(image, BASE_AT, &t.base.0.to_be_bytes());
-    put_bytes(image, ENTRIES_AT, t.entries.map(entry_bytes).as_flattened());
+    put_entries(image, &t.entries);
     put_bytes(image, STARTS_AT, t.starts.map(start_bytes).as_flattened());
+}
+
+// Writes the entries, one behind the other. (Mapped to bytes as the starts are, they are copied four times, 1,000 bytes of a change's stack.)
+fn put_entries(image: &mut [u8; IMAGE], entries: &[Entry; Timetable::IDS])
+    ensures { image.new ≡ sets image.old ENTRIES_AT (entries_bytes entries.now IDS) }
+{
+    for (id, e) in entries.iter().enumerate() {
+        put_bytes(image, ENTRIES_AT + ENTRY * id, &entry_bytes(*e));
+    }
 }
 
 // The six bytes of an entry.

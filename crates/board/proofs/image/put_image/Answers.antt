@@ -16,16 +16,13 @@ returns c =
     let t = c.args.t.now in
     let owners-count : length t.owners ≡ LONGEST =
     search rules in
-    let entries =
-    all_made (λ i. entry_bytes (entry_of t.entries i)) _ 32 c.map.ensures.items.long
-    (λ i l. mapped_at _ _ _ _ _ c.map.ensures.items entry_bytes (λ x y q w. search rules) i l no_entry) in
     let starts =
-    all_made (λ i. number_bytes (start_of t i) 2) _ 32 c.map-2.ensures.items.long
-    (λ i l. mapped_at _ _ _ _ _ c.map-2.ensures.items (λ n. number_bytes n 2) (λ x y q w. search rules) i l 0) in
-    image_stored t owners-count c.args.image.now c.put_bytes.new.image c.put_bytes-2.new.image c.put_bytes-3.new.image c.put_bytes-4.new.image c.put_bytes-5.new.image
+    all_made (λ i. number_bytes (start_of t i) 2) _ 32 c.map.ensures.items.long
+    (λ i l. mapped_at _ _ _ _ _ c.map.ensures.items (λ n. number_bytes n 2) (λ x y q w. search rules) i l 0) in
+    image_stored t owners-count c.args.image.now c.put_bytes.new.image c.put_bytes-2.new.image c.put_bytes-3.new.image c.put_entries.new.image c.put_bytes-4.new.image
     c.told-image
     (c.put_bytes.ensures ∙ ap (sets c.args.image.now 0) (c.to_be_bytes.ensures ∙ slot_bytes t.request.0))
     c.put_bytes-2.ensures
     (c.put_bytes-3.ensures ∙ ap (sets c.put_bytes-2.new.image 73) (c.to_be_bytes-2.ensures ∙ slot_bytes t.base.0))
-    (c.put_bytes-4.ensures ∙ ap (sets c.put_bytes-3.new.image 81) (c.as_flattened.ensures.value ∙ entries))
-    (c.put_bytes-5.ensures ∙ ap (sets c.put_bytes-4.new.image 273) (c.as_flattened-2.ensures.value ∙ starts))
+    c.put_entries.ensures
+    (c.put_bytes-4.ensures ∙ ap (sets c.put_entries.new.image 273) (c.as_flattened.ensures.value ∙ starts))
