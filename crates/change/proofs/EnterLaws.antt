@@ -1,7 +1,7 @@
--- The entries with which the ids enter a change, id by id: of a sound timetable they are those at the request slot. Assumes nothing.
+-- The entries with which the ids enter a change, id by id: of a sound timetable they are those of the plan of length 0. Assumes nothing.
 use borrow.Author.Tests.{lt-ltb, le-ltb}
 use lib.Dec.{ltb}
-use lib.ListN.{length}
+use lib.ListN.{length, replicate}
 use lib.Seq.{ext_get_or}
 use mathlib.Core.Bool.{cond}
 use mathlib.Core.List.{List}
@@ -18,8 +18,7 @@ use Rattle.records.specs.declared.Ask.{Ask}
 use Rattle.records.specs.declared.Request.{Request}
 use Rattle.records.specs.Reads.{AsksRange}
 use Rattle.records.specs.Request.{ask_of}
-use Rattle.slots.specs.declared.CoreSlot.{CoreSlot}
-use Rattle.slots.specs.Limits.{IDS}
+use Rattle.slots.specs.Limits.{IDS, LONGEST}
 use Rattle.timetable.proofs.Ranges.{period_is}
 use Rattle.timetable.proofs.Since.{shortfall_cycle}
 use Rattle.timetable.proofs.Sound.{Sound}
@@ -39,27 +38,32 @@ enters_period old start ask = at (dec_lt 0 ask.period)
     at (yes h) = rw (lt-ltb 0 ask.period h)
     at (no h) = rw (le-ltb 0 ask.period (omega arith)) (omega arith)
 
-module _ (t : Timetable) (slot : CoreSlot) (asks : List Ask) where
-  -- Their periods are those of asks in range.
-  pub start_periods : AsksRange asks → ArePeriods (start_entries t slot asks)
-  start_periods r i k pos =
-      let e : (entry_of (start_entries t slot asks) i).period ≡ (ask_of asks i).period =
-      ap (λ (x : Entry). x.period) (start_at_lem t slot asks i k) ∙ enters_period _ _ _ in
-      ⊎_elim (λ z. absurd (omega (arith, e, z.0, pos))) (λ p. ap is_period e ∙ period_is _ p.0) (r.each i k)
+-- An id as it enters, with what it is owed since the base.
+abbrev pub entered : Timetable → Request → ℕ → Entry
+entered t q i = entering (entry_of t.entries i) (shortfall_after (entry_of t.entries i) (q.slot.0 - t.base.0)) (ask_of q.asks i)
 
-  -- Of a sound timetable they enter with what they are owed since the base.
-  pub start_entered : Sound t → t.base.0 ≤ slot.0 → (es : List Entry) → length es ≡ IDS
-      → ((i : ℕ) → i < IDS → entry_of es i ≡ entering (entry_of t.entries i) (shortfall_after (entry_of t.entries i) (slot.0 - t.base.0)) (ask_of asks i))
-      → es ≡ start_entries t slot asks
+module _ (t : Timetable) (q : Request) where
+  -- Of a sound timetable these are the entries of the plan of length 0.
+  pub start_entered : Sound t → t.base.0 ≤ q.slot.0 → (es : List Entry) → length es ≡ IDS
+      → ((i : ℕ) → i < IDS → entry_of es i ≡ entered t q i)
+      → ◌≡◌ {A = Plan} (record { owners = replicate LONGEST 0; entries = es }) (start_plan t q)
+  unfolding start_plan
   start_entered s later es len each =
-      ext_get_or no_entry _ _ (len ∙ sym (length_start t slot asks))
+      ap {B = Plan} (λ (x : List Entry). record { owners = replicate LONGEST 0; entries = x })
+      (ext_get_or no_entry _ _ (len ∙ sym (length_start t q.slot q.asks))
       (λ i k.
       let j : i < IDS = omega (arith, len) in
       each i j
-      ∙ ap (λ (x : ℕ). entering (entry_of t.entries i) x (ask_of asks i)) (shortfall_cycle t s i j slot later)
-      ∙ sym (start_at_lem t slot asks i j))
+      ∙ ap (λ (x : ℕ). entering (entry_of t.entries i) x (ask_of q.asks i)) (shortfall_cycle t s i j q.slot later)
+      ∙ sym (start_at_lem t q.slot q.asks i j)))
 
--- In the plan of length 0 every entry has a period that is asked for.
-pub plan_periods : (t : Timetable) (r : Request) (plan : Plan) → plan ≡ start_plan t r → AsksRange r.asks → ArePeriods plan.entries
-unfolding start_plan
-plan_periods t r plan e a = subst (λ (x : Plan). ArePeriods x.entries) (sym e) (start_periods t r.slot r.asks a)
+  start_period : AsksRange q.asks → ArePeriods (start_entries t q.slot q.asks)
+  start_period r i k pos =
+      let e : (entry_of (start_entries t q.slot q.asks) i).period ≡ (ask_of q.asks i).period =
+      ap (λ (x : Entry). x.period) (start_at_lem t q.slot q.asks i k) ∙ enters_period _ _ _ in
+      ⊎_elim (λ z. absurd (omega (arith, e, z.0, pos))) (λ p. ap is_period e ∙ period_is _ p.0) (r.each i k)
+
+  -- Each of them has a period that is asked for.
+  pub plan_periods : (plan : Plan) → plan ≡ start_plan t q → AsksRange q.asks → ArePeriods plan.entries
+  unfolding start_plan
+  plan_periods plan e r = subst (λ (x : Plan). ArePeriods x.entries) (sym e) (start_period r)

@@ -1,4 +1,4 @@
-// The stages before the search, in the order of docs/RULES.md 7.2, once the timetable is known to be sound: a small area, the fields, then 6, 7 and 8. The lowest stage wins.
+// The stages before the search, in the order of docs/RULES.md 7.2, and the plan with which the search begins. The lowest stage wins.
 ghost use Rattle.std.specs.Prelude.{MatchResult, false, true, ◌≡◌, ◌≤◌};
 ghost use Rattle.change.specs.Change.{start_plan};
 ghost use Rattle.change.specs.Periods.{ArePeriods};

@@ -16,7 +16,7 @@ use timetable::{SoundTimetable, Standing, Timetable};
 pub fn owner_query(t: &Timetable, slot: CoreSlot) -> OwnerAnswer
     ensures { result ≡ owner_query t.now slot }
 {
-    match owner_at(t, slot) {
+    match owner_of(t, slot) {
         Ok(owner) => OwnerAnswer {
             number: Refusal::ACCEPTED,
             place: 0,
@@ -34,7 +34,7 @@ pub fn owner_query(t: &Timetable, slot: CoreSlot) -> OwnerAnswer
 pub fn standing_query(t: &Timetable, id: u8, slot: CoreSlot) -> StandingAnswer
     ensures { result ≡ standing_query t.now id slot }
 {
-    match standing_at(t, id, slot) {
+    match standing_of(t, id, slot) {
         Ok(standing) => StandingAnswer {
             number: Refusal::ACCEPTED,
             place: 0,
@@ -51,7 +51,7 @@ pub fn standing_query(t: &Timetable, id: u8, slot: CoreSlot) -> StandingAnswer
 }
 
 // The owner of a slot, or the refusal of the owner query.
-fn owner_at(t: &Timetable, slot: CoreSlot) -> Result<u8, Refusal>
+fn owner_of(t: &Timetable, slot: CoreSlot) -> Result<u8, Refusal>
     ensures { MatchResult result (λ o. owner_query t.now slot ≡ owner_answer ACCEPTED o) (λ r. owner_query t.now slot ≡ record { number = r.number; place = r.place; owner = 0 }) }
 {
     let sound = sound_stage(t)?;
@@ -60,7 +60,7 @@ fn owner_at(t: &Timetable, slot: CoreSlot) -> Result<u8, Refusal>
 }
 
 // The standing of an id at a slot, or the refusal of the standing query.
-fn standing_at(t: &Timetable, id: u8, slot: CoreSlot) -> Result<Standing, Refusal>
+fn standing_of(t: &Timetable, id: u8, slot: CoreSlot) -> Result<Standing, Refusal>
     ensures { MatchResult result (λ s. standing_query t.now id slot ≡ standing_answer ACCEPTED s.shortfall s.slices) (λ r. standing_query t.now id slot ≡ record { number = r.number; place = r.place; shortfall = 0; slices = slice_count 0 }) }
 {
     let sound = sound_stage(t)?;

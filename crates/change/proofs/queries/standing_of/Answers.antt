@@ -1,11 +1,11 @@
--- `standing_at` makes the definition's tests in their order. Assumes nothing.
+-- `standing_of` makes the definition's tests in their order. Assumes nothing.
 use mathlib.Core.Path.{sym, ap, ◌∙◌}
 use Rattle.change.proofs.QueryLaws.{standing_no_id, standing_slot, standing_told, standing_unlisted, standing_unsound}
 use Rattle.change.specs.Queries.{standing, standing_query}
 use Rattle.std.proofs.lemmas.Result.{err_from_is_err_and}
 use Rattle.timetable.specs.declared.Timetable.{Timetable}
 use Rattle.timetable.specs.Timetable.{lists}
-use Rattle.change.proofs.queries.standing_at.Goals as goal
+use Rattle.change.proofs.queries.standing_of.Goals as goal
 
 pub returns-in_err-sound : goal.returns-in_err-sound
 returns-in_err-sound c =

@@ -1,4 +1,4 @@
--- `owner_at` makes the definition's tests in their order. Assumes nothing.
+-- `owner_of` makes the definition's tests in their order. Assumes nothing.
 use mathlib.Core.Path.{sym, ap, ◌∙◌}
 use Rattle.change.proofs.QueryLaws.{owner_number_is, owner_slot, owner_told, owner_unsound}
 use Rattle.change.specs.Queried.{owner_answer}
@@ -6,7 +6,7 @@ use Rattle.change.specs.Queries.{owner_query}
 use Rattle.numbers.specs.Numbers.{ACCEPTED}
 use Rattle.std.proofs.lemmas.Result.{err_from_is_err_and}
 use Rattle.timetable.specs.declared.Timetable.{Timetable}
-use Rattle.change.proofs.queries.owner_at.Goals as goal
+use Rattle.change.proofs.queries.owner_of.Goals as goal
 
 pub returns-in_err-sound : goal.returns-in_err-sound
 returns-in_err-sound c =
