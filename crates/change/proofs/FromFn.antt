@@ -2,7 +2,7 @@
 use denote.Param.Members.{Mut}
 use lib.ListN.{get_or}
 use mathlib.Core.List.{List}
-use mathlib.Core.Path.{◌≡◌, refl, subst, ◌∙◌, sym, ap}
+use mathlib.Core.Path.{◌≡◌, refl, subst, ◌∙◌, sym}
 use native.Mathlib.Decide.{ℕ_discrete}
 use native.Mathlib.Omega.{arith}
 use Prim.Native.Nat.{ℕ, zero, suc, ◌+◌, ◌≤◌, ◌<◌}

@@ -1,10 +1,9 @@
 -- The stages before the search, test by test, as the code makes them. Assumes nothing.
 use borrow.Author.Tests.{lt-ltb, le-ltb, le-leb, lt-leb, eq-eqb, ne_eqb}
 use lib.Dec.{leb, ltb}
-use lib.ListN.{length, length-map, get_or-map}
-use lib.Seq.{ext_get_or}
+use lib.ListN.{length}
 use mathlib.Core.Bool.{Bool, true, false, not}
-use mathlib.Core.List.{List, map}
+use mathlib.Core.List.{List}
 use mathlib.Core.Logic.{◌≢◌}
 use mathlib.Core.Option.{none}
 use mathlib.Core.Path.{◌≡◌, sym, ap, ap₂, ◌∙◌}

@@ -7,7 +7,7 @@ use mathlib.Core.Path.{◌≡◌, refl, sym, ap, ◌∙◌, subst}
 use native.Mathlib.Omega.{arith}
 use Prim.Native.Nat.{ℕ, ◌≤◌, ◌<◌}
 use Rattle.change.proofs.Answers.{record_accepted, record_none}
-use Rattle.change.proofs.Passing.{answer_unsound, goes_into}
+use Rattle.change.proofs.Passing.{goes_into}
 use Rattle.change.specs.Change.{answer, answer_of, new_timetable, number_of, outcome_of, place_of, record_of, refuse, starts_of, timetable_of, written}
 use Rattle.change.specs.declared.Answer.{Answer}
 use Rattle.change.specs.declared.Granted.{Granted}

@@ -1,6 +1,6 @@
 -- `write_told` writes the record of an acceptance, and of a refusal there is none. Assumes nothing.
 use Rattle.change.proofs.ToldLaws.{told_granted, told_refused}
-use Rattle.std.proofs.lemmas.Result.{IfErr-at_err, IfOk-at_ok}
+use Rattle.std.proofs.lemmas.Result.{IfErr-at_err}
 use Rattle.change.proofs.write_told.Goals as goal
 
 pub returns-in-Ok : goal.returns-in-Ok

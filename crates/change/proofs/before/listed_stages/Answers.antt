@@ -1,5 +1,5 @@
 -- `listed_stages` asks stages 7 and 8 in their order. Assumes nothing.
-use mathlib.Core.Path.{sym, ap, ◌∙◌}
+use mathlib.Core.Path.{◌∙◌}
 use Rattle.change.specs.Stages.{stage_behind, stages_listed}
 use Rattle.numbers.proofs.ChainLaws.{first_one, first_passed, first_refused}
 use Rattle.std.proofs.lemmas.Result.{MatchResult-weaker, err_from_is_err_and}

@@ -1,5 +1,5 @@
 -- `shortfalls_of` takes each entry's shortfall. Assumes nothing.
-use lib.ListN.{length, length-map, get_or-map}
+use lib.ListN.{length-map, get_or-map}
 use lib.Seq.{ext_get_or}
 use mathlib.Core.Path.{sym, ◌∙◌}
 use native.Mathlib.Omega.{arith}
