@@ -4,6 +4,8 @@ use mathlib.Core.Bool.{true, false}
 use mathlib.Core.Logic.{◌⊎◌, inl, inr}
 use mathlib.Core.Option.{none, some}
 use mathlib.Core.Path.{◌≡◌, ap}
+use native.Mathlib.Decide.{dec_lt}
+use native.Mathlib.Omega.{arith}
 use Prim.Native.Nat.{ℕ, ◌≤◌, ◌<◌}
 use Rattle.change.specs.Queries.{refuse_owner, owner_query, refuse_standing, standing, standing_query}
 use Rattle.numbers.specs.declared.Refusal.{Refusal}
@@ -11,8 +13,9 @@ use Rattle.numbers.specs.Numbers.{ACCEPTED, NOT_SOUND, OUT_OF_RANGE, TOO_EARLY, 
 use Rattle.slots.specs.Clocks.{slice_count}
 use Rattle.slots.specs.declared.CoreSlot.{CoreSlot}
 use Rattle.slots.specs.Limits.{IDLE, IDS, LAST_SLOT}
-use Rattle.std.proofs.Common.{MatchOption, None, Some}
+use Rattle.std.proofs.Common.{Err, MatchOption, None, Ok, Some}
 use Rattle.std.specs.declared.option.Option.{Option}
+use Rattle.std.specs.declared.result.Result.{Result}
 use Rattle.std.specs.Option.{unwrap_or}
 use Rattle.timetable.specs.declared.Timetable.{Timetable}
 use Rattle.timetable.specs.Owner.{owner_number}
@@ -22,6 +25,26 @@ use Rattle.timetable.specs.Timetable.{lists, owner_at}
 -- How a slot is refused: above the limit, or before the last accepted request slot.
 abbrev SlotRefused : Timetable → CoreSlot → Refusal → Type 0
 SlotRefused t slot r = (LAST_SLOT < slot.0) × (r ≡ refusal OUT_OF_RANGE 0) ⊎ (slot.0 ≤ LAST_SLOT) × (slot.0 < t.request.0) × (r ≡ refusal TOO_EARLY 0)
+
+-- What is known of a slot by what its stages gave.
+module _ (t : Timetable) (slot : CoreSlot) (result : Result (Unit {0}) Refusal) (high : LAST_SLOT < slot.0 → result ≡ Err (refusal OUT_OF_RANGE 0))
+    (early : slot.0 ≤ LAST_SLOT → slot.0 < t.request.0 → result ≡ Err (refusal TOO_EARLY 0))
+    (in_time : slot.0 ≤ LAST_SLOT → t.request.0 ≤ slot.0 → result ≡ Ok tt) where
+  pub slot_refused : (r : Refusal) → result ≡ Err r → SlotRefused t slot r
+  slot_refused r e = at (dec_lt LAST_SLOT slot.0) (dec_lt slot.0 t.request.0)
+    where
+      at : Dec (LAST_SLOT < slot.0) → Dec (slot.0 < t.request.0) → SlotRefused t slot r
+      at (yes h) _ = inl (h, let k = high h in cc)
+      at (no h) (yes l) = inr (omega arith, l, let k = early (omega arith) l in cc)
+      at (no h) (no l) = absurd (let k = in_time (omega arith) (omega arith) in cc)
+
+  pub slot_passed : (u : Unit {0}) → result ≡ Ok u → (slot.0 ≤ LAST_SLOT) × (t.request.0 ≤ slot.0)
+  slot_passed u e = at (dec_lt LAST_SLOT slot.0) (dec_lt slot.0 t.request.0)
+    where
+      at : Dec (LAST_SLOT < slot.0) → Dec (slot.0 < t.request.0) → (slot.0 ≤ LAST_SLOT) × (t.request.0 ≤ slot.0)
+      at (yes h) _ = absurd (let k = high h in cc)
+      at (no h) (yes l) = absurd (let k = early (omega arith) l in cc)
+      at (no h) (no l) = (omega arith, omega arith)
 
 module _ (t : Timetable) (slot : CoreSlot) where
   pub owner_unsound : is_sound t ≡ false → owner_query t slot ≡ refuse_owner NOT_SOUND

@@ -1,5 +1,5 @@
 // The stages before the search, in the order of docs/RULES.md 7.2, and the plan with which the search begins. The lowest stage wins.
-ghost use Rattle.std.specs.Prelude.{MatchResult, false, true, ◌≡◌, ◌≤◌};
+ghost use Rattle.std.specs.Prelude.{IfErr, IfOk, MatchResult, OnOk, false, true, ◌≡◌, ◌≤◌};
 ghost use Rattle.change.specs.Change.{start_plan};
 ghost use Rattle.change.specs.Periods.{ArePeriods};
 ghost use Rattle.change.specs.Stages.{asked_bound, bound_before, entering, is_behind, stage_behind, stage_overfull, stages_first, stages_listed};
@@ -25,8 +25,9 @@ pub fn sound_stage<'a>(t: &'a Timetable) -> Result<SoundTimetable<'a>, Refusal>
 
 // The stages of a sound timetable that need no entries, 2, the fields and 6, and the request that passed them.
 pub fn first_stages(t: SoundTimetable, request: &[u8], area: usize) -> Result<Request, Refusal>
-    ensures { MatchResult result (λ q. (first_of (stages_first t.entry.timetable.now (read_request request.now) area) ≡ Passed) × (q ≡ (read_request request.now).request))
-        (λ r. first_of (stages_first t.entry.timetable.now (read_request request.now) area) ≡ Refused r) }
+    ensures passed { OnOk result (first_of (stages_first t.entry.timetable.now (read_request request.now) area) ≡ Passed) }
+    ensures asked { IfOk result (λ q. q ≡ (read_request request.now).request) }
+    ensures refused { IfErr result (λ r. first_of (stages_first t.entry.timetable.now (read_request request.now) area) ≡ Refused r) }
 {
     if area < Timetable::AREA {
         return Err(Refusal::of(Refusal::SMALL_AREA, 0));

@@ -3,11 +3,11 @@ ghost use Rattle.std.specs.Prelude.{IfErr, ◌≡◌, ◌≢◌, ◌≤◌};
 ghost use Rattle.change.specs.Change.{answer, new_timetable, shortfalls_of};
 ghost use Rattle.change.specs.Told.{told};
 ghost use Rattle.numbers.specs.Numbers.{ACCEPTED};
-ghost use Rattle.records.specs.declared.Request.{Request};
 ghost use Rattle.slots.specs.Limits.{LAST_SLOT, LONGEST};
 
 use crate::{Granted, Refused, before};
 use numbers::Refusal;
+use records::Request;
 use slots::CoreSlot;
 use timetable::{Entry, SoundTimetable, Timetable};
 use transition::{Ending, Plan};
@@ -25,7 +25,7 @@ pub fn grant(t: SoundTimetable, request: &[u8], area: usize) -> Result<Granted, 
     match found.ending {
         Ending::Found(length) => Ok(Granted {
             tries: found.tries,
-            timetable: new_timetable(asked.slot, starts, length, &plan),
+            timetable: new_timetable(&asked, starts, length, &plan),
         }),
         Ending::Missed(n) => Err(wanting(Refusal::SLOT_MISSED, n, found.tries)),
         Ending::Exhausted(n) => Err(wanting(Refusal::LENGTHS_EXHAUSTED, n, found.tries)),
@@ -41,19 +41,19 @@ fn shortfalls_of(entries: &[Entry; Timetable::IDS]) -> [u16; Timetable::IDS]
 
 // The new timetable: the request slot, the transition, its base, request slot + length, and the starts.
 fn new_timetable(
-    request: CoreSlot,
+    asked: &Request,
     starts: [u16; Timetable::IDS],
     length: u8,
     plan: &Plan,
 ) -> Timetable
-    requires { (request.0 ≤ LAST_SLOT) × (length ≤ LONGEST) }
-    ensures { (r : Request) → r.slot ≡ request → result ≡ new_timetable r starts length plan.now }
+    requires { (asked.now.slot.0 ≤ LAST_SLOT) × (length ≤ LONGEST) }
+    ensures { result ≡ new_timetable asked.now starts length plan.now }
 {
     Timetable {
-        request,
+        request: asked.slot,
         length,
         owners: plan.owners,
-        base: CoreSlot(request.0 + (length as u64)),
+        base: CoreSlot(asked.slot.0 + (length as u64)),
         entries: plan.entries,
         starts,
     }

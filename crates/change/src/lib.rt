@@ -87,7 +87,8 @@ pub fn change(t: &Timetable, request: &[u8], area: &mut [u8]) -> Outcome
 
 // The same for a timetable that is known to be sound, which is not tested again: a program that holds only what a change returned, or the empty timetable, has no other.
 pub fn change_sound(t: SoundTimetable, request: &[u8], area: &mut [u8]) -> Outcome
-    ensures { (result ≡ outcome t.entry.timetable.now request.now area.old) × (area.new ≡ area_after t.entry.timetable.now request.now area.old) }
+    ensures { (result ≡ outcome t.entry.timetable.now request.now area.old)
+        × (area.new ≡ area_after t.entry.timetable.now request.now area.old) }
 {
     let size = area.len();
     write_told(t.timetable, grant(t, request, size), area)

@@ -1,5 +1,5 @@
 // The owner query and the standing query. A refused query returns zeros beside its number.
-ghost use Rattle.std.specs.Prelude.{MatchResult, ◌≡◌, ◌⊎◌, ◌≤◌, ◌<◌};
+ghost use Rattle.std.specs.Prelude.{Err, IfErr, IfOk, Ok, ◌≡◌, ◌≤◌, ◌<◌};
 ghost use Rattle.change.specs.Queried.{owner_answer, standing_answer};
 ghost use Rattle.change.specs.Queries.{owner_query, standing_query};
 ghost use Rattle.numbers.specs.Numbers.{ACCEPTED, OUT_OF_RANGE, TOO_EARLY, refusal};
@@ -52,7 +52,8 @@ pub fn standing_query(t: &Timetable, id: u8, slot: CoreSlot) -> StandingAnswer
 
 // The owner of a slot, or the refusal of the owner query.
 fn owner_of(t: &Timetable, slot: CoreSlot) -> Result<u8, Refusal>
-    ensures { MatchResult result (λ o. owner_query t.now slot ≡ owner_answer ACCEPTED o) (λ r. owner_query t.now slot ≡ record { number = r.number; place = r.place; owner = 0 }) }
+    ensures owned { IfOk result (λ o. owner_query t.now slot ≡ owner_answer ACCEPTED o) }
+    ensures refused { IfErr result (λ r. owner_query t.now slot ≡ record { number = r.number; place = r.place; owner = 0 }) }
 {
     let sound = sound_stage(t)?;
     slot_stages(sound, slot)?;
@@ -61,7 +62,8 @@ fn owner_of(t: &Timetable, slot: CoreSlot) -> Result<u8, Refusal>
 
 // The standing of an id at a slot, or the refusal of the standing query.
 fn standing_of(t: &Timetable, id: u8, slot: CoreSlot) -> Result<Standing, Refusal>
-    ensures { MatchResult result (λ s. standing_query t.now id slot ≡ standing_answer ACCEPTED s.shortfall s.slices) (λ r. standing_query t.now id slot ≡ record { number = r.number; place = r.place; shortfall = 0; slices = slice_count 0 }) }
+    ensures stands { IfOk result (λ s. standing_query t.now id slot ≡ standing_answer ACCEPTED s.shortfall s.slices) }
+    ensures refused { IfErr result (λ r. standing_query t.now id slot ≡ record { number = r.number; place = r.place; shortfall = 0; slices = slice_count 0 }) }
 {
     let sound = sound_stage(t)?;
     if Timetable::IDS <= (id as usize) {
@@ -76,8 +78,9 @@ fn standing_of(t: &Timetable, id: u8, slot: CoreSlot) -> Result<Standing, Refusa
 
 // What both queries ask of a slot: that it is not above the limit, and then that it is not before the last accepted request slot.
 fn slot_stages(t: SoundTimetable, slot: CoreSlot) -> Result<(), Refusal>
-    ensures { MatchResult result (λ _. (slot.0 ≤ LAST_SLOT) × (t.entry.timetable.now.request.0 ≤ slot.0))
-        (λ r. (LAST_SLOT < slot.0) × (r ≡ refusal OUT_OF_RANGE 0) ⊎ (slot.0 ≤ LAST_SLOT) × (slot.0 < t.entry.timetable.now.request.0) × (r ≡ refusal TOO_EARLY 0)) }
+    ensures high { LAST_SLOT < slot.0 → result ≡ Err (refusal OUT_OF_RANGE 0) }
+    ensures early { slot.0 ≤ LAST_SLOT → slot.0 < t.entry.timetable.now.request.0 → result ≡ Err (refusal TOO_EARLY 0) }
+    ensures in_time { slot.0 ≤ LAST_SLOT → t.entry.timetable.now.request.0 ≤ slot.0 → result ≡ Ok tt }
 {
     if Timetable::LAST_SLOT < slot.0 {
         return Err(Refusal::of(Refusal::OUT_OF_RANGE, 0));

@@ -9,21 +9,21 @@ use Rattle.records.specs.declared.ReadRequest.{ReadRequest}
 use Rattle.records.specs.Request.{read_request}
 use Rattle.change.proofs.before.first_stages.Goals as goal
 
-pub returns-then-area-lt-AREA : goal.returns-then-area-lt-AREA
-returns-then-area-lt-AREA c =
+pub returns-then-area-lt-AREA-clause-refused : goal.returns-then-area-lt-AREA-clause-refused
+returns-then-area-lt-AREA-clause-refused c =
     let a = c.args in
     (first_tells a.t.timetable.now (read_request a.request.now) a.area).only _ (chain.passed _ (stage.sound a.t.sound) (chain.refused _ (small_area c.if-area-lt-AREA.true)))
     ∙ sym (ap Refused c.of.ensures)
 
-pub returns-in-Refused : goal.returns-in-Refused
-returns-in-Refused c =
+pub returns-in-Refused-clause-refused : goal.returns-in-Refused-clause-refused
+returns-in-Refused-clause-refused c =
     let a = c.args in
     let read = ap (λ (x : ReadRequest). x.reading) c.read_request-read.ensures in
     (first_tells a.t.timetable.now (read_request a.request.now) a.area).only _
     (chain.passed _ (stage.sound a.t.sound) (chain.passed _ (enough c.if-area-lt-AREA.false) (chain.refused _ (bad_field _ (sym read ∙ c.in-Refused.is)))))
 
-pub returns-then-asked-t : goal.returns-then-asked-t
-returns-then-asked-t c =
+pub returns-then-asked-t-clause-refused : goal.returns-then-asked-t-clause-refused
+returns-then-asked-t-clause-refused c =
     let a = c.args in
     let read = ap (λ (x : ReadRequest). x.reading) c.read_request-read.ensures in
     let e = rw c.read_request-read.ensures at c.if-asked-t.true in
@@ -32,13 +32,14 @@ returns-then-asked-t c =
     (chain.passed _ (enough c.if-area-lt-AREA.false) (chain.passed _ (whole (sym read ∙ c.in_default.is)) (too_early e))))
     ∙ sym (ap Refused c.of-then-asked-t.ensures)
 
-pub returns : goal.returns
-returns c =
+pub returns-clause-passed : goal.returns-clause-passed
+returns-clause-passed c =
     let a = c.args in
     let read = ap (λ (x : ReadRequest). x.reading) c.read_request-read.ensures in
-    let e = rw c.read_request-read.ensures at c.if-asked-t.false in (
-      (first_tells a.t.timetable.now (read_request a.request.now) a.area).only _
-          (chain.passed _ (stage.sound a.t.sound)
-          (chain.passed _ (enough c.if-area-lt-AREA.false) (chain.passed _ (whole (sym read ∙ c.in_default.is)) (in_time e)))),
-      ap (λ (x : ReadRequest). x.request) c.read_request-read.ensures,
-    )
+    let e = rw c.read_request-read.ensures at c.if-asked-t.false in
+    (first_tells a.t.timetable.now (read_request a.request.now) a.area).only _
+    (chain.passed _ (stage.sound a.t.sound)
+    (chain.passed _ (enough c.if-area-lt-AREA.false) (chain.passed _ (whole (sym read ∙ c.in_default.is)) (in_time e))))
+
+pub returns-clause-asked : goal.returns-clause-asked
+returns-clause-asked c = ap (λ (x : ReadRequest). x.request) c.read_request-read.ensures
