@@ -22,9 +22,10 @@ use Rattle.numbers.specs.declared.Verdict.TheVariants.{Passed, Refused}
 use Rattle.records.proofs.ReadLaws.{read_in_range}
 use Rattle.records.specs.declared.Reading.TheVariants.{Whole}
 use Rattle.records.specs.declared.ReadRequest.{ReadRequest}
+use Rattle.records.specs.declared.Request.{Request}
 use Rattle.records.specs.Reads.{RequestRange}
 use Rattle.records.specs.Request.{read_request}
-use Rattle.slots.specs.Limits.{AREA, LAST_SLOT, LONGEST}
+use Rattle.slots.specs.Limits.{AREA, LONGEST}
 use Rattle.timetable.proofs.Sound.{ranged_is, sound_is}
 use Rattle.timetable.specs.declared.Timetable.{Timetable}
 use Rattle.timetable.specs.Sound.{is_sound}
@@ -51,6 +52,15 @@ found_limit limit plan = at (search_from limit 0 plan) (search_ends limit 0 plan
     at x (found k l b p h ps f i) = subst (λ (x : Searched). length_of x.ending ≤ limit) (sym i) (omega (arith, l))
     at x (missed k l b p h f i) = subst (λ (x : Searched). length_of x.ending ≤ limit) (sym i) (omega arith)
     at x (exhausted b p i) = subst (λ (x : Searched). length_of x.ending ≤ limit) (sym i) (omega arith)
+
+pub found_below : (limit : ℕ) (plan : Plan) (x : Searched) → search_from limit 0 plan ≡ x → (n : ℕ) → x.ending ≡ Found n → n ≤ limit
+unfolding length_of
+found_below limit plan x h n k = omega (arith, found_limit limit plan, ap (λ (y : Searched). length_of y.ending) h, ap length_of k)
+
+-- The search from the plan of length 0 is the request's.
+pub search_is : (t : Timetable) (r : Request) (plan : Plan) → plan ≡ start_plan t r → (x : Searched) → search_from r.limit 0 plan ≡ x → x ≡ search_of t r
+unfolding search_of
+search_is t r plan p x h = sym h ∙ ap (search_from r.limit 0) p
 
 -- An answer whose record goes into an area of a size.
 abbrev pub GoesInto : Answer → ℕ → Type 0
@@ -140,11 +150,9 @@ module _ (t : Timetable) (s : List ℕ) (area : ℕ) where
     listed_number r f = refused_number r (listed_next ∙ f)
 
     module _ (f : first_of (stages_listed plan.entries) ≡ Passed) where
-      pub answer_searched : (x : Searched) → x ≡ search_from (read_request s).request.limit 0 plan → answer t s area ≡ answer_of t (read_request s).request x
-      unfolding given search_of
-      answer_searched x h =
-          answer_given Passed (listed_next ∙ f)
-          ∙ ap (answer_of t (read_request s).request) (sym (h ∙ ap (search_from (read_request s).request.limit 0) p))
+      pub answer_searched : answer t s area ≡ answer_of t (read_request s).request (search_of t (read_request s).request)
+      unfolding given
+      answer_searched = answer_given Passed (listed_next ∙ f)
 
       pub passes : Admitted t (read_request s).request area
       passes = admitted t s area (said t s area Passed (listed_next ∙ f))
@@ -153,12 +161,3 @@ module _ (t : Timetable) (s : List ℕ) (area : ℕ) where
       ready_plan =
           let fit = admitted_fit t (read_request s).request area passes in
           subst Ready (sym p) (record { ranged = ranged_is (start_plan t (read_request s).request).entries fit.ranged; unplaced = fit.unplaced })
-
-      -- A length that was found: the timetable can hold it and its base.
-      pub holds : (x : Searched) → x ≡ search_from (read_request s).request.limit 0 plan → (n : ℕ) → x.ending ≡ Found n
-          → ((read_request s).request.slot.0 ≤ LAST_SLOT) × (n ≤ LONGEST)
-      unfolding length_of
-      holds x h n k = (
-        passes.range.slot,
-        omega (arith, found_limit (read_request s).request.limit plan, ap length_of (sym k ∙ ap (λ (y : Searched). y.ending) h), passes.range.limit),
-      )

@@ -80,12 +80,11 @@ module _ (t : Timetable) (s : List ℕ) (area : ℕ) where
 
 module _ (t : Timetable) (r : Request) (end : Ending) (tries n : ℕ) (plan : Plan) where
   -- A length that was found;
-  pub told_found : end ≡ Found n → (asked : Request) → asked ≡ r → (starts : List ℕ) → starts ≡ starts_of t r
-      → (new : Timetable) → new ≡ new_timetable asked starts n plan
+  pub told_found : end ≡ Found n → (starts : List ℕ) → starts ≡ starts_of t r → (new : Timetable) → new ≡ new_timetable r starts n plan
       → told t (Ok (record { tries = tries; timetable = new })) ≡ answer_of t r (record { ending = end; tries = tries; plan = plan })
   unfolding answer_of number_of place_of timetable_of
-  told_found e asked q starts s new h =
-      ap (λ (x : Timetable). told t (Ok (record { tries = tries; timetable = x }))) (h ∙ (λ j. new_timetable (q j) (s j) n plan))
+  told_found e starts s new h =
+      ap (λ (x : Timetable). told t (Ok (record { tries = tries; timetable = x }))) (h ∙ ap (λ (x : List ℕ). new_timetable r x n plan) s)
       ∙ sym (ap (λ (x : Ending). answer_of t r (record { ending = x; tries = tries; plan = plan })) e)
 
   module _ (x : Refused) where

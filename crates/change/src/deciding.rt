@@ -1,9 +1,11 @@
 // What a request gets from a timetable that is known to be sound: the stages before the search, and then the search of lengths.
 ghost use Rattle.std.specs.Prelude.{IfErr, ◌≡◌, ◌≢◌, ◌≤◌};
-ghost use Rattle.change.specs.Change.{answer, new_timetable, shortfalls_of};
+ghost use Rattle.change.specs.Change.{answer, answer_of, new_timetable, search_of, shortfalls_of, start_plan};
 ghost use Rattle.change.specs.Told.{told};
 ghost use Rattle.numbers.specs.Numbers.{ACCEPTED};
 ghost use Rattle.slots.specs.Limits.{LAST_SLOT, LONGEST};
+ghost use Rattle.timetable.specs.declared.Timetable.{Timetable};
+ghost use Rattle.transition.specs.Coded.{Ready};
 
 use crate::{Granted, Refused, before};
 use numbers::Refusal;
@@ -18,14 +20,24 @@ pub fn grant(t: SoundTimetable, request: &[u8], area: usize) -> Result<Granted, 
     ensures refused { IfErr result (λ r. r.refusal.number ≢ ACCEPTED) }
 {
     let asked = before::first_stages(t, request, area)?;
-    let mut plan = before::start_plan(t, &asked);
+    let plan = before::start_plan(t, &asked);
     before::listed_stages(&plan.entries)?;
+    searched(&asked, plan)
+}
+
+// What the search of lengths gives a request that passed the stages, from the plan of length 0.
+fn searched(asked: &Request, mut plan: Plan) -> Result<Granted, Refused>
+    requires in_range { (asked.now.slot.0 ≤ LAST_SLOT) × (asked.now.limit ≤ LONGEST) }
+    requires ready { Ready plan }
+    ensures told { (t : Timetable) → plan ≡ start_plan t asked.now → told t result ≡ answer_of t asked.now (search_of t asked.now) }
+    ensures refused { IfErr result (λ r. r.refusal.number ≢ ACCEPTED) }
+{
     let starts = shortfalls_of(&plan.entries);
     let found = plan.search(asked.limit);
     match found.ending {
         Ending::Found(length) => Ok(Granted {
             tries: found.tries,
-            timetable: new_timetable(&asked, starts, length, &plan),
+            timetable: new_timetable(asked, starts, length, &plan),
         }),
         Ending::Missed(n) => Err(wanting(Refusal::SLOT_MISSED, n, found.tries)),
         Ending::Exhausted(n) => Err(wanting(Refusal::LENGTHS_EXHAUSTED, n, found.tries)),

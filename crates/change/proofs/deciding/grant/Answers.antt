@@ -2,13 +2,10 @@
 use mathlib.Core.Path.{sym, ap, ◌∙◌}
 use native.Mathlib.Omega.{arith}
 use Rattle.change.proofs.EnterLaws.{plan_periods}
-use Rattle.change.proofs.Passing.{answer_first, answer_listed, answer_searched, first_number, first_passes, first_range, holds, listed_number, passes, ready_plan}
-use Rattle.change.proofs.ToldLaws.{told_early, told_exhausted, told_found, told_missed}
-use Rattle.change.specs.Change.{shortfalls_of, start_plan, starts_of}
+use Rattle.change.proofs.Passing.{answer_first, answer_listed, answer_searched, first_number, first_passes, first_range, listed_number, passes, ready_plan}
+use Rattle.change.proofs.ToldLaws.{told_early}
+use Rattle.change.specs.Change.{answer_of, search_of, start_plan}
 use Rattle.records.specs.declared.Request.{Request}
-use Rattle.records.specs.Request.{read_request}
-use Rattle.transition.specs.declared.Plan.{Plan}
-use Rattle.transition.specs.Transition.{search_from}
 use Rattle.change.proofs.deciding.grant.Goals as goal
 
 pub returns-in_err-asked : goal.returns-in_err-asked
@@ -40,53 +37,28 @@ returns-in_err-listed_stages c =
     (answer_listed t _ _ k.passed _ p _ e) (listed_number t _ _ k.passed _ p _ e) in
     record { told = k.0; refused = k.1 }
 
-pub search-found-requires : goal.search-found-requires
-search-found-requires c =
+pub searched-requires : goal.searched-requires
+searched-requires c =
     let t = c.args.t.timetable.now in
     let k = c.in_ok-asked.ensures in
     let p = c.start_plan-plan.ensures ∙ ap (start_plan t) k.asked in
     let f = c.in_ok-listed_stages.ensures in
+    let r = (passes t _ _ k.passed _ p f).range in
     record {
-      size = omega (arith, (passes t _ _ k.passed _ p f).range.limit, ap (λ (r : Request). r.limit) k.asked);
+      in_range = (omega (arith, r.slot, ap (λ (r : Request). r.slot.0) k.asked), omega (arith, r.limit, ap (λ (r : Request). r.limit) k.asked));
       ready = ready_plan t _ _ k.passed _ p f;
     }
 
-pub new_timetable-requires : goal.new_timetable-requires
-new_timetable-requires c =
+pub returns : goal.returns
+returns c =
     let t = c.args.t.timetable.now in
     let k = c.in_ok-asked.ensures in
-    let p = c.start_plan-plan.ensures ∙ ap (start_plan t) k.asked in
+    let p = c.start_plan-plan.ensures in
     let f = c.in_ok-listed_stages.ensures in
-    let x = sym c.search-found.ensures ∙ ap (λ (r : Request). search_from r.limit 0 c.start_plan-plan.result) k.asked in
-    let h = holds t c.args.request.now c.args.area k.passed _ p f _ x _ c.in-Found.is in
-    (omega (arith, h.0, ap (λ (r : Request). r.slot.0) k.asked), h.1)
-
-pub returns-in-Found-clause-told : goal.returns-in-Found-clause-told
-unfolding starts_of
-returns-in-Found-clause-told c =
-    let t = c.args.t.timetable.now in
-    let k = c.in_ok-asked.ensures in
-    let p = c.start_plan-plan.ensures ∙ ap (start_plan t) k.asked in
-    let f = c.in_ok-listed_stages.ensures in
-    let x = sym c.search-found.ensures ∙ ap (λ (r : Request). search_from r.limit 0 c.start_plan-plan.result) k.asked in
-    let r = (read_request c.args.request.now).request in
-    let s = c.shortfalls_of-starts.ensures ∙ ap (λ (y : Plan). shortfalls_of y.entries) p in
-    told_found t r _ _ _ _ c.in-Found.is _ k.asked _ s _ c.new_timetable.ensures ∙ sym (answer_searched t _ _ k.passed _ p f _ x)
-
-pub returns-in-Missed-clause-told : goal.returns-in-Missed-clause-told
-returns-in-Missed-clause-told c =
-    let t = c.args.t.timetable.now in
-    let k = c.in_ok-asked.ensures in
-    let p = c.start_plan-plan.ensures ∙ ap (start_plan t) k.asked in
-    let f = c.in_ok-listed_stages.ensures in
-    let x = sym c.search-found.ensures ∙ ap (λ (r : Request). search_from r.limit 0 c.start_plan-plan.result) k.asked in
-    told_missed t _ _ _ _ _ _ c.in-Missed.is c.wanting.ensures ∙ sym (answer_searched t _ _ k.passed _ p f _ x)
-
-pub returns-in-Exhausted-clause-told : goal.returns-in-Exhausted-clause-told
-returns-in-Exhausted-clause-told c =
-    let t = c.args.t.timetable.now in
-    let k = c.in_ok-asked.ensures in
-    let p = c.start_plan-plan.ensures ∙ ap (start_plan t) k.asked in
-    let f = c.in_ok-listed_stages.ensures in
-    let x = sym c.search-found.ensures ∙ ap (λ (r : Request). search_from r.limit 0 c.start_plan-plan.result) k.asked in
-    told_exhausted t _ _ _ _ _ _ c.in-Exhausted.is c.wanting-in-Exhausted.ensures ∙ sym (answer_searched t _ _ k.passed _ p f _ x)
+    record {
+      told =
+          c.searched.ensures.told t p
+          ∙ ap (λ (r : Request). answer_of t r (search_of t r)) k.asked
+          ∙ sym (answer_searched t _ _ k.passed _ (p ∙ ap (start_plan t) k.asked) f);
+      refused = c.searched.ensures.refused;
+    }
