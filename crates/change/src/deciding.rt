@@ -20,16 +20,16 @@ pub fn grant(t: SoundTimetable, request: &[u8], area: usize) -> Result<Granted, 
     ensures refused { IfErr result (λ r. r.refusal.number ≢ ACCEPTED) }
 {
     let asked = before::first_stages(t, request, area)?;
-    let plan = before::start_plan(t, &asked);
+    let mut plan = before::start_plan(t, &asked);
     before::listed_stages(&plan.entries)?;
-    searched(&asked, plan)
+    searched(&asked, &mut plan)
 }
 
 // What the search of lengths gives a request that passed the stages, from the plan of length 0.
-fn searched(asked: &Request, mut plan: Plan) -> Result<Granted, Refused>
+fn searched(asked: &Request, plan: &mut Plan) -> Result<Granted, Refused>
     requires in_range { (asked.now.slot.0 ≤ LAST_SLOT) × (asked.now.limit ≤ LONGEST) }
-    requires ready { Ready plan }
-    ensures told { (t : Timetable) → plan ≡ start_plan t asked.now → told t result ≡ answer_of t asked.now (search_of t asked.now) }
+    requires ready { Ready plan.old }
+    ensures told { (t : Timetable) → plan.old ≡ start_plan t asked.now → told t result ≡ answer_of t asked.now (search_of t asked.now) }
     ensures refused { IfErr result (λ r. r.refusal.number ≢ ACCEPTED) }
 {
     let starts = shortfalls_of(&plan.entries);
@@ -37,7 +37,7 @@ fn searched(asked: &Request, mut plan: Plan) -> Result<Granted, Refused>
     match found.ending {
         Ending::Found(length) => Ok(Granted {
             tries: found.tries,
-            timetable: new_timetable(asked, starts, length, &plan),
+            timetable: new_timetable(asked, starts, length, plan),
         }),
         Ending::Missed(n) => Err(wanting(Refusal::SLOT_MISSED, n, found.tries)),
         Ending::Exhausted(n) => Err(wanting(Refusal::LENGTHS_EXHAUSTED, n, found.tries)),

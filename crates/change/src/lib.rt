@@ -82,7 +82,7 @@ pub fn change(t: &Timetable, request: &[u8], area: &mut [u8]) -> Outcome
     ensures { (result ≡ outcome t.now request.now area.old) × (area.new ≡ area_after t.now request.now area.old) }
 {
     let size = area.len();
-    write_told(t, decided(t, request, size), area)
+    write_told(t, &decided(t, request, size), area)
 }
 
 // The same for a timetable that is known to be sound, which is not tested again: a program that holds only what a change returned, or the empty timetable, has no other.
@@ -91,7 +91,7 @@ pub fn change_sound(t: SoundTimetable, request: &[u8], area: &mut [u8]) -> Outco
         × (area.new ≡ area_after t.entry.timetable.now request.now area.old) }
 {
     let size = area.len();
-    write_told(t.timetable, grant(t, request, size), area)
+    write_told(t.timetable, &grant(t, request, size), area)
 }
 
 // The answer to a request with an answer area of a given size. No byte is written: what is decided can still be dropped.
@@ -123,10 +123,10 @@ pub fn decided(t: &Timetable, request: &[u8], area: usize) -> Result<Granted, Re
 }
 
 // What was decided as it is returned, once the record of an acceptance is written.
-fn write_told(t: &Timetable, decided: Result<Granted, Refused>, area: &mut [u8]) -> Outcome
-    requires fits { IfOk decided (λ g. (AREA ≤ length area.old) × (g.timetable.length ≤ LONGEST)) }
-    requires refused { IfErr decided (λ r. r.refusal.number ≢ ACCEPTED) }
-    ensures { (result ≡ outcome_of (told t.now decided)) × (area.new ≡ written (told t.now decided) area.old) }
+fn write_told(t: &Timetable, decided: &Result<Granted, Refused>, area: &mut [u8]) -> Outcome
+    requires fits { IfOk decided.now (λ g. (AREA ≤ length area.old) × (g.timetable.length ≤ LONGEST)) }
+    requires refused { IfErr decided.now (λ r. r.refusal.number ≢ ACCEPTED) }
+    ensures { (result ≡ outcome_of (told t.now decided.now)) × (area.new ≡ written (told t.now decided.now) area.old) }
 {
     match decided {
         Ok(granted) => Outcome {

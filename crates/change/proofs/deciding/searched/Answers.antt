@@ -12,7 +12,7 @@ search-found-requires c = record { size = c.requires.in_range.1; ready = c.requi
 
 pub new_timetable-requires : goal.new_timetable-requires
 new_timetable-requires c =
-    (c.requires.in_range.0, omega (arith, found_below c.args.asked.now.limit c.args.plan _ c.search-found.ensures _ c.in-Found.is, c.requires.in_range.1))
+    (c.requires.in_range.0, omega (arith, found_below c.args.asked.now.limit c.args.plan.now _ c.search-found.ensures _ c.in-Found.is, c.requires.in_range.1))
 
 pub returns-in-Found-clause-told : goal.returns-in-Found-clause-told
 unfolding starts_of
