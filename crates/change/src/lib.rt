@@ -81,8 +81,7 @@ pub struct StandingAnswer {
 pub fn change(t: &Timetable, request: &[u8], area: &mut [u8]) -> Outcome
     ensures { (result ≡ outcome t.now request.now area.old) × (area.new ≡ area_after t.now request.now area.old) }
 {
-    let size = area.len();
-    write_told(t, &decided(t, request, size), area)
+    write_told(t, &decided(t, request, area.len()), area)
 }
 
 // The same for a timetable that is known to be sound, which is not tested again: a program that holds only what a change returned, or the empty timetable, has no other.
@@ -90,8 +89,7 @@ pub fn change_sound(t: SoundTimetable, request: &[u8], area: &mut [u8]) -> Outco
     ensures { (result ≡ outcome t.entry.timetable.now request.now area.old)
         × (area.new ≡ area_after t.entry.timetable.now request.now area.old) }
 {
-    let size = area.len();
-    write_told(t.timetable, &grant(t, request, size), area)
+    write_told(t.timetable, &grant(t, request, area.len()), area)
 }
 
 // The answer to a request with an answer area of a given size. No byte is written: what is decided can still be dropped.
