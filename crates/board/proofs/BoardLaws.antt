@@ -11,7 +11,6 @@ use Rattle.std.specs.Prelude.{Err, Ok}
 use Rattle.board.specs.Image.{Changed, IMAGE, OwnerTold, StandingTold, area_after_image, empty_image, empty_number, image_after, image_answer, image_of, image_owner, image_standing, timetable_at}
 use Rattle.change.specs.Change.{answer, record_of, refuse, written}
 use Rattle.change.specs.declared.Answer.{Answer}
-use Rattle.change.specs.declared.Granted.{Granted}
 use Rattle.change.specs.declared.Refused.{Refused}
 use Rattle.change.specs.declared.OwnerAnswer.{OwnerAnswer}
 use Rattle.change.specs.declared.StandingAnswer.{StandingAnswer}
@@ -104,23 +103,23 @@ module _ (image : List ℕ) (e : length image ≡ IMAGE) where
       gets = answer_held image request (length area) e ∙ ap (λ (x : Timetable). answer x request (length area)) (sym h)
 
       -- A request that is granted, with its record written, leaves the image of the new timetable.
-      pub change_granted : (g : Granted) → told_of t (Ok g) ≡ answer t request (length area) → (bytes : ℕ) (after area_told : List ℕ)
-          → after ≡ image_of g.timetable
-          → (bytes ≡ length (answer_record g.timetable.length g.timetable.owners g.timetable.entries)) × (area_told ≡ sets area 0 (answer_record g.timetable.length g.timetable.owners g.timetable.entries))
-          → Changed image request area ACCEPTED 0 g.tries bytes after area_told
+      pub change_granted : (now : Timetable) (tries : ℕ) → told_of now (Ok tries) ≡ answer t request (length area) → (bytes : ℕ) (after area_told : List ℕ)
+          → after ≡ image_of now
+          → (bytes ≡ length (answer_record now.length now.owners now.entries)) × (area_told ≡ sets area 0 (answer_record now.length now.owners now.entries))
+          → Changed image request area ACCEPTED 0 tries bytes after area_told
       unfolding record_of
-      change_granted g k bytes after area_told i w =
+      change_granted now tries k bytes after area_told i w =
           let a = gets ∙ sym k in
           rw (w.0, w.1)
-          (told image request area after (told_of t (Ok g)) a
+          (told image request area after (told_of now (Ok tries)) a
           (i ∙ sym (after_accepted image request (length area) (ap (λ (x : Answer). x.number) a) ∙ ap (λ (x : Answer). image_of x.timetable) a)))
 
       -- One that is refused leaves every byte.
-      pub change_refused : (r : Refused) → told_of t (Err r) ≡ answer t request (length area) → r.refusal.number ≢ ACCEPTED
+      pub change_refused : (now : Timetable) (r : Refused) → told_of now (Err r) ≡ answer t request (length area) → r.refusal.number ≢ ACCEPTED
           → Changed image request area r.refusal.number r.refusal.place r.tries 0 image area
       unfolding record_of
-      change_refused r k n =
+      change_refused now r k n =
           let a = gets ∙ sym k in
-          let b = told image request area image (told_of t (Err r)) a
+          let b = told image request area image (told_of now (Err r)) a
           (sym (after_refused image request (length area) (λ z. n (sym (ap (λ (x : Answer). x.number) a) ∙ z)))) in
           (rw (ne_eqb _ _ n) at b)

@@ -51,11 +51,12 @@ pub fn tarnflaw_change(
     let Some(image) = image.as_mut_array() else {
         return Refusal::NOT_SOUND;
     };
-    match change::decided(&image::timetable_of(image), request, area.len()) {
-        Ok(granted) => {
-            image::put_image(image, &granted.timetable);
-            *tries = granted.tries;
-            *written = write_answer(area, &granted.timetable);
+    let mut t = image::timetable_of(image);
+    match change::decided(&mut t, request, area.len()) {
+        Ok(searched) => {
+            image::put_image(image, &t);
+            *tries = searched;
+            *written = write_answer(area, &t);
             Refusal::ACCEPTED
         }
         Err(refused) => {

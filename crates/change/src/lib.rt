@@ -27,13 +27,6 @@ pub struct Answer {
     pub timetable: Timetable,
 }
 
-// A change that is granted: the lengths searched, and the timetable in force from now on.
-#[derive(Clone, Copy)]
-pub struct Granted {
-    pub tries: u8,
-    pub timetable: Timetable,
-}
-
 // A request that is refused: why, and the lengths searched.
 #[derive(Clone, Copy)]
 pub struct Refused {
@@ -81,7 +74,9 @@ pub struct StandingAnswer {
 pub fn change(t: &Timetable, request: &[u8], area: &mut [u8]) -> Outcome
     ensures { (result ≡ outcome t.now request.now area.old) × (area.new ≡ area_after t.now request.now area.old) }
 {
-    write_told(t, &decided(t, request, area.len()), area)
+    let mut next = *t;
+    let decided = decided(&mut next, request, area.len());
+    write_told(next, decided, area)
 }
 
 // The same for a timetable that is known to be sound, which is not tested again: a program that holds only what a change returned, or the empty timetable, has no other.
@@ -89,57 +84,61 @@ pub fn change_sound(t: SoundTimetable, request: &[u8], area: &mut [u8]) -> Outco
     ensures { (result ≡ outcome t.entry.timetable.now request.now area.old)
         × (area.new ≡ area_after t.entry.timetable.now request.now area.old) }
 {
-    write_told(t.timetable, &grant(t, request, area.len()), area)
+    let mut next = *t.timetable;
+    let granted = grant(&mut next, request, area.len());
+    write_told(next, granted, area)
 }
 
 // The answer to a request with an answer area of a given size. No byte is written: what is decided can still be dropped.
 pub fn decide(t: &Timetable, request: &[u8], area: usize) -> Answer
     ensures { result ≡ answer t.now request.now area }
 {
-    match decided(t, request, area) {
-        Ok(granted) => Answer {
+    let mut timetable = *t;
+    match decided(&mut timetable, request, area) {
+        Ok(tries) => Answer {
             number: Refusal::ACCEPTED,
             place: 0,
-            tries: granted.tries,
-            timetable: granted.timetable,
+            tries,
+            timetable,
         },
         Err(refused) => Answer {
             number: refused.refusal.number,
             place: refused.refusal.place,
             tries: refused.tries,
-            timetable: *t,
+            timetable,
         },
     }
 }
 
-// What a request gets from any timetable: one that is not sound refuses it. No byte of an area is touched. (Public for the board alone.)
-pub fn decided(t: &Timetable, request: &[u8], area: usize) -> Result<Granted, Refused>
-    ensures told { told t.now result ≡ answer t.now request.now area }
+// Any timetable is changed by a request and tells how many lengths were searched, or it refuses the request and stays as it was: as it does where it is not sound. No byte of an area is touched. (Public for the board alone.)
+pub fn decided(t: &mut Timetable, request: &[u8], area: usize) -> Result<u8, Refused>
+    ensures told { told t.new result ≡ answer t.old request.now area }
     ensures refused { IfErr result (λ r. r.refusal.number ≢ ACCEPTED) }
 {
-    grant(before::sound_stage(t)?, request, area)
+    before::sound_stage(t)?;
+    grant(t, request, area)
 }
 
 // What was decided as it is returned, once the record of an acceptance is written.
-fn write_told(t: &Timetable, decided: &Result<Granted, Refused>, area: &mut [u8]) -> Outcome
-    requires fits { IfOk decided.now (λ g. (AREA ≤ length area.old) × (g.timetable.length ≤ LONGEST)) }
-    requires refused { IfErr decided.now (λ r. r.refusal.number ≢ ACCEPTED) }
-    ensures { (result ≡ outcome_of (told t.now decided.now)) × (area.new ≡ written (told t.now decided.now) area.old) }
+fn write_told(t: Timetable, decided: Result<u8, Refused>, area: &mut [u8]) -> Outcome
+    requires fits { IfOk decided (λ _. (AREA ≤ length area.old) × (t.length ≤ LONGEST)) }
+    requires refused { IfErr decided (λ r. r.refusal.number ≢ ACCEPTED) }
+    ensures { (result ≡ outcome_of (told t decided)) × (area.new ≡ written (told t decided) area.old) }
 {
     match decided {
-        Ok(granted) => Outcome {
+        Ok(tries) => Outcome {
             number: Refusal::ACCEPTED,
             place: 0,
-            tries: granted.tries,
-            written: write_answer(area, &granted.timetable),
-            timetable: granted.timetable,
+            tries,
+            written: write_answer(area, &t),
+            timetable: t,
         },
         Err(refused) => Outcome {
             number: refused.refusal.number,
             place: refused.refusal.place,
             tries: refused.tries,
             written: 0,
-            timetable: *t,
+            timetable: t,
         },
     }
 }

@@ -19,10 +19,18 @@ impl Timetable {
         ensures { MatchOption result (is_sound self.now ≡ false) (λ s. s.timetable.now ≡ self.now) }
     {
         if self.is_sound() {
-            Some(SoundTimetable { timetable: self })
+            Some(self.known_sound())
         } else {
             None
         }
+    }
+
+    // A timetable of which it is known that it is sound.
+    pub fn known_sound<'a>(&'a self) -> SoundTimetable<'a>
+        requires { is_sound self.now ≡ true }
+        ensures { result.timetable.now ≡ self.now }
+    {
+        SoundTimetable { timetable: self }
     }
 
     // Whether the timetable is sound.

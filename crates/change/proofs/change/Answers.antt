@@ -9,11 +9,11 @@ use Rattle.change.proofs.change.Goals as goal
 pub write_told-requires-clause-fits : goal.write_told-requires-clause-fits
 write_told-requires-clause-fits c =
     let a = c.args in
-    granted_fits a.t.now a.request.now (length a.area.now) _ c.decided.ensures.told
+    granted_fits a.t.now a.request.now (length a.area.now) _ _ c.decided-decided.ensures.told
 
 pub returns : goal.returns
 unfolding outcome area_after
 returns c =
     let k = c.write_told.ensures in
-    let e = c.decided.ensures.told in
+    let e = c.decided-decided.ensures.told in
     (k.0 ∙ ap outcome_of e, k.1 ∙ ap (λ (x : Answer). written x c.args.area.now) e)

@@ -10,55 +10,60 @@ use Rattle.change.proofs.deciding.grant.Goals as goal
 
 pub returns-in_err-asked : goal.returns-in_err-asked
 returns-in_err-asked c =
-    let t = c.args.t.timetable.now in
-    let e = c.in_err-asked.ensures.refused in
+    let t = c.args.t.now in
+    let e = rw c.known_sound-sound.ensures at c.in_err-asked.ensures.refused in
     let k = told_early t c.args.request.now c.args.area c.from_residual.result _ c.from_residual.ensures.1 (answer_first t _ _ _ e) (first_number t _ _ _ e) in
     record { told = k.0; refused = k.1 }
 
 pub start_plan-plan-requires : goal.start_plan-plan-requires
 start_plan-plan-requires c =
     let k = c.in_ok-asked.ensures in
-    omega (arith, (first_passes c.args.t.timetable.now _ _ k.passed).2, ap (λ (r : Request). r.slot.0) k.asked)
+    omega (arith, (first_passes c.known_sound-sound.result.timetable.now _ _ k.passed).2, ap (λ (r : Request). r.slot.0) k.asked)
 
 pub listed_stages-requires : goal.listed_stages-requires
 listed_stages-requires c =
-    let t = c.args.t.timetable.now in
+    let t = c.known_sound-sound.result.timetable.now in
     let k = c.in_ok-asked.ensures in
     plan_periods t _ _ (c.start_plan-plan.ensures ∙ ap (start_plan t) k.asked) (first_range t _ _ k.passed).asks
 
 pub returns-in_err-listed_stages : goal.returns-in_err-listed_stages
 returns-in_err-listed_stages c =
-    let t = c.args.t.timetable.now in
+    let t = c.args.t.now in
     let k = c.in_ok-asked.ensures in
-    let p = c.start_plan-plan.ensures ∙ ap (start_plan t) k.asked in
+    let q = rw c.known_sound-sound.ensures at k.passed in
+    let p = (rw c.known_sound-sound.ensures at c.start_plan-plan.ensures) ∙ ap (start_plan t) k.asked in
     let e = c.in_err-listed_stages.ensures in
     let k =
     told_early t c.args.request.now c.args.area c.from_residual-in_err-listed_stages.result _ c.from_residual-in_err-listed_stages.ensures.1
-    (answer_listed t _ _ k.passed _ p _ e) (listed_number t _ _ k.passed _ p _ e) in
+    (answer_listed t _ _ q _ p _ e) (listed_number t _ _ q _ p _ e) in
     record { told = k.0; refused = k.1 }
 
 pub searched-requires : goal.searched-requires
 searched-requires c =
-    let t = c.args.t.timetable.now in
+    let t = c.args.t.now in
     let k = c.in_ok-asked.ensures in
-    let p = c.start_plan-plan.ensures ∙ ap (start_plan t) k.asked in
+    let q = rw c.known_sound-sound.ensures at k.passed in
+    let s = rw c.known_sound-sound.ensures at c.start_plan-plan.ensures in
+    let p = s ∙ ap (start_plan t) k.asked in
     let f = c.in_ok-listed_stages.ensures in
-    let r = (passes t _ _ k.passed _ p f).range in
+    let r = (passes t _ _ q _ p f).range in
     record {
       in_range = (omega (arith, r.slot, ap (λ (r : Request). r.slot.0) k.asked), omega (arith, r.limit, ap (λ (r : Request). r.limit) k.asked));
-      ready = ready_plan t _ _ k.passed _ p f;
+      start = s;
+      ready = ready_plan t _ _ q _ p f;
     }
 
 pub returns : goal.returns
 returns c =
-    let t = c.args.t.timetable.now in
+    let t = c.args.t.now in
     let k = c.in_ok-asked.ensures in
-    let p = c.start_plan-plan.ensures in
+    let q = rw c.known_sound-sound.ensures at k.passed in
+    let p = (rw c.known_sound-sound.ensures at c.start_plan-plan.ensures) ∙ ap (start_plan t) k.asked in
     let f = c.in_ok-listed_stages.ensures in
     record {
       told =
-          c.searched.ensures.told t p
+          c.searched.ensures.told
           ∙ ap (λ (r : Request). answer_of t r (search_of t r)) k.asked
-          ∙ sym (answer_searched t _ _ k.passed _ (p ∙ ap (start_plan t) k.asked) f);
+          ∙ sym (answer_searched t _ _ q _ p f);
       refused = c.searched.ensures.refused;
     }

@@ -10,23 +10,29 @@ use Rattle.change.proofs.deciding.searched.Goals as goal
 pub search-found-requires : goal.search-found-requires
 search-found-requires c = record { size = c.requires.in_range.1; ready = c.requires.ready }
 
-pub new_timetable-requires : goal.new_timetable-requires
-new_timetable-requires c =
+pub enter_force-requires : goal.enter_force-requires
+enter_force-requires c =
     (c.requires.in_range.0, omega (arith, found_below c.args.asked.now.limit c.args.plan.now _ c.search-found.ensures _ c.in-Found.is, c.requires.in_range.1))
 
 pub returns-in-Found-clause-told : goal.returns-in-Found-clause-told
 unfolding starts_of
-returns-in-Found-clause-told c = λ t p.
+returns-in-Found-clause-told c =
+    let t = c.args.t.now in
+    let p = c.requires.start in
     let q = c.args.asked.now in
     let s = c.shortfalls_of-starts.ensures ∙ ap (λ (y : Plan). shortfalls_of y.entries) p in
-    told_found t q _ _ _ _ c.in-Found.is _ s _ c.new_timetable.ensures ∙ ap (answer_of t q) (search_is t q _ p _ c.search-found.ensures)
+    told_found t q _ _ _ _ c.in-Found.is _ s _ c.enter_force.ensures ∙ ap (answer_of t q) (search_is t q _ p _ c.search-found.ensures)
 
 pub returns-in-Missed-clause-told : goal.returns-in-Missed-clause-told
-returns-in-Missed-clause-told c = λ t p.
+returns-in-Missed-clause-told c =
+    let t = c.args.t.now in
+    let p = c.requires.start in
     let q = c.args.asked.now in
     told_missed t q _ _ _ _ _ c.in-Missed.is c.wanting.ensures ∙ ap (answer_of t q) (search_is t q _ p _ c.search-found.ensures)
 
 pub returns-in-Exhausted-clause-told : goal.returns-in-Exhausted-clause-told
-returns-in-Exhausted-clause-told c = λ t p.
+returns-in-Exhausted-clause-told c =
+    let t = c.args.t.now in
+    let p = c.requires.start in
     let q = c.args.asked.now in
     told_exhausted t q _ _ _ _ _ c.in-Exhausted.is c.wanting-in-Exhausted.ensures ∙ ap (answer_of t q) (search_is t q _ p _ c.search-found.ensures)
