@@ -70,10 +70,10 @@ module _ (s : List ℕ) where
 
   -- Entries that are each read from their bytes.
   pub entries_read : (es : List Entry) → length es ≡ IDS
-      → ((i : ℕ) (d : Entry) → i < IDS → get_or es i d ≡ entry_at s (ENTRIES_AT + ENTRY * i)) → es ≡ entries_at s IDS
+      → ((i : ℕ) → i < IDS → entry_of es i ≡ entry_at s (ENTRIES_AT + ENTRY * i)) → es ≡ entries_at s IDS
   entries_read es n each =
       ext_get_or no_entry es (entries_at s IDS) (n ∙ sym held_length)
-      (λ i h. each i no_entry (omega (arith, n)) ∙ sym (held_at i (omega (arith, n))))
+      (λ i h. each i (omega (arith, n)) ∙ sym (held_at i (omega (arith, n))))
 
   -- There are as many starts as ids.
   starts_length : (n : ℕ) → length (starts_at s n) ≡ n
@@ -92,10 +92,10 @@ module _ (s : List ℕ) where
 
   -- Starts that are each read from their bytes.
   pub starts_read : (ss : List ℕ) → length ss ≡ IDS
-      → ((i : ℕ) (d : ℕ) → i < IDS → get_or ss i d ≡ start_at s (STARTS_AT + START * i)) → ss ≡ starts_at s IDS
+      → ((i : ℕ) → i < IDS → get_or ss i 0 ≡ start_at s (STARTS_AT + START * i)) → ss ≡ starts_at s IDS
   starts_read ss n each =
       ext_get_or 0 ss (starts_at s IDS) (n ∙ sym (starts_length IDS))
-      (λ i h. each i 0 (omega (arith, n)) ∙ sym (start_held IDS i (omega (arith, n))))
+      (λ i h. each i (omega (arith, n)) ∙ sym (start_held IDS i (omega (arith, n))))
 
 -- The fields are the timetable.
 pub held : (image owners starts : List ℕ) (es : List Entry) (request base : CoreSlot) (size : ℕ) → request ≡ core_slot (number_at image 0 8) → size ≡ get_or image LENGTH_AT 0

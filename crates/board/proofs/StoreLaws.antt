@@ -1,21 +1,19 @@
 -- An image after a run of stores: a part, the bytes of the ids one behind the other, the whole image. Assumes nothing.
 use borrow.Rule.Slice.PartMut.{put_mid}
 use lib.ListN.{drop, get_or, length, length-append, set, take}
-use lib.Seq.{drop_at, drop-drop, sets, sets-eq, take_all, take-suc}
-use mathlib.Core.List.{List, [], ◌∷◌, ◌++◌, append_assoc, append-nil}
-use mathlib.Core.Path.{◌≡◌, refl, sym, ap, ap₂, ◌∙◌}
+use lib.Seq.{drop_at, drop-drop, sets, sets-eq}
+use mathlib.Core.List.{List, [], ◌∷◌, ◌++◌, append_assoc}
+use mathlib.Core.Path.{◌≡◌, refl, sym, ap, ◌∙◌}
 use native.Mathlib.Nat.{mul-suc, mul-zero}
 use native.Mathlib.Numerals.{add-one}
 use native.Mathlib.Omega.{arith}
 use Prim.Native.Nat.{ℕ, zero, suc, ◌+◌, ◌-◌, ◌*◌, ◌<◌, ◌≤◌}
 use Rattle.std.proofs.Math.Nat.{div-div-eq-div-mul}
-use Rattle.std.proofs.lemmas.List.Concat.{flat_map-append}
 use Rattle.std.specs.Int.{to_be_bytes, w64}
-use Rattle.std.specs.List.{flat_map}
 use Rattle.board.specs.Image.{BASE_AT, ENTRIES_AT, ENTRY, IMAGE, LENGTH_AT, OWNERS_AT, START, STARTS_AT, entries_bytes, entry_bytes, image_of, starts_bytes}
 use Rattle.records.proofs.FieldStands.{number_length}
 use Rattle.records.proofs.RisingLaws.{rising_split, rising_from}
-use Rattle.records.proofs.SetsLaws.{set_then, sets_all, sets_then}
+use Rattle.records.proofs.SetsLaws.{set_then, sets_all, sets_behind, sets_then}
 use Rattle.records.specs.Answer.{rising}
 use Rattle.records.specs.Written.{number_bytes}
 use Rattle.slots.specs.Limits.{IDS, LONGEST}
@@ -33,22 +31,6 @@ part_stored l vs ws at k e n h =
 pub slot_bytes : (n : ℕ) → to_be_bytes w64 n ≡ number_bytes n 8
 unfolding number_bytes
 slot_bytes n = simp div-div-eq-div-mul
-
--- Bytes that are made id by id, one behind the other.
-rising_made : (f : ℕ → List ℕ) (bs : List (List ℕ)) (n : ℕ) → n ≤ length bs → ((i : ℕ) → i < n → get_or bs i [] ≡ f i)
-    → flat_map (λ x. x) (take n bs) ≡ rising f n
-unfolding rising
-rising_made f bs zero h each = refl
-rising_made f bs (suc n) h each =
-    ap (flat_map (λ x. x)) (take-suc bs n [] (omega arith))
-    ∙ flat_map-append (λ x. x) (take n bs) (get_or bs n [] ∷ [])
-    ∙ ap₂ ◌++◌ (rising_made f bs n (omega arith) (λ i k. each i (omega arith))) (append-nil (get_or bs n []) ∙ each n (omega arith))
-
--- All of them.
-pub all_made : (f : ℕ → List ℕ) (bs : List (List ℕ)) (n : ℕ) → length bs ≡ n → ((i : ℕ) → i < n → (d : List ℕ) → get_or bs i d ≡ f i)
-    → flat_map (λ x. x) bs ≡ rising f n
-all_made f bs n e each =
-    ap (flat_map (λ x. x)) (sym (take_all n bs (omega arith))) ∙ rising_made f bs n (omega arith) (λ i h. each i h [])
 
 -- An entry has six bytes.
 pub entry_length : (e : Entry) → length (entry_bytes e) ≡ ENTRY
@@ -98,6 +80,30 @@ entries_length es = rising_length _ ENTRY (λ i. entry_length (entry_of es i))
 starts_length : (starts : List ℕ) (n : ℕ) → length (starts_bytes starts n) ≡ START * n
 starts_length starts = rising_length _ START (start_length starts)
 
+-- A run may be stored before one that stands behind it.
+sets_past : (l vs ws : List ℕ) (i k : ℕ) → i + length vs ≤ k → sets (sets l k ws) i vs ≡ sets (sets l i vs) k ws
+sets_past l vs [] i k h = refl
+sets_past l vs (w ∷ ws) i k h =
+    sets_past (set l k w) vs ws i (suc k) (omega arith) ∙ ap (λ (x : List ℕ). sets x (suc k) ws) (sets_behind l i k vs w h)
+
+-- The entry and the start of one id more, behind those of the ids before.
+pub ids_next : (l m a b : List ℕ) (es : List Entry) (ss : List ℕ) (n : ℕ) → n < IDS
+    → m ≡ sets (sets l ENTRIES_AT (entries_bytes es n)) STARTS_AT (starts_bytes ss n)
+    → a ≡ sets m (ENTRIES_AT + ENTRY * n) (entry_bytes (entry_of es n))
+    → b ≡ sets a (STARTS_AT + START * n) (number_bytes (get_or ss n 0) START)
+    → b ≡ sets (sets l ENTRIES_AT (entries_bytes es (n + 1))) STARTS_AT (starts_bytes ss (n + 1))
+ids_next l m a b es ss n h pm pa pb =
+    let e = ENTRIES_AT + ENTRY * n in
+    let bytes = entry_bytes (entry_of es n) in
+    let before = sets l ENTRIES_AT (entries_bytes es n) in
+    let entries =
+    rising_next (λ i. entry_bytes (entry_of es i)) ENTRY (λ i. entry_length (entry_of es i)) l before (sets before e bytes) ENTRIES_AT e n refl refl refl in
+    let moved : a ≡ sets (sets l ENTRIES_AT (entries_bytes es (n + 1))) STARTS_AT (starts_bytes ss n) =
+    pa ∙ ap (λ (x : List ℕ). sets x e bytes) pm
+    ∙ sets_past before bytes (starts_bytes ss n) e STARTS_AT (omega (arith, entry_length (entry_of es n)))
+    ∙ ap (λ (x : List ℕ). sets x STARTS_AT (starts_bytes ss n)) entries in
+    rising_next (λ i. number_bytes (get_or ss i 0) START) START (start_length ss) _ a b STARTS_AT _ n refl moved pb
+
 module _ (t : Timetable) (all : length t.owners ≡ LONGEST) where
   -- An image has 337 bytes.
   pub image_length : length (image_of t) ≡ IMAGE
@@ -106,11 +112,11 @@ module _ (t : Timetable) (all : length t.owners ≡ LONGEST) where
       simp length-append (omega (arith, number_length t.request.0 8, number_length t.base.0 8, entries_length t.entries IDS, starts_length t.starts IDS))
 
   -- The fields stored one behind the other are the image.
-  pub image_stored : (l a b d e g : List ℕ) → length l ≡ IMAGE → a ≡ sets l 0 (number_bytes t.request.0 8)
+  pub image_stored : (l a b d g : List ℕ) → length l ≡ IMAGE → a ≡ sets l 0 (number_bytes t.request.0 8)
       → b ≡ sets (set a LENGTH_AT t.length) OWNERS_AT t.owners → d ≡ sets b BASE_AT (number_bytes t.base.0 8)
-      → e ≡ sets d ENTRIES_AT (entries_bytes t.entries IDS) → g ≡ sets e STARTS_AT (starts_bytes t.starts IDS) → g ≡ image_of t
+      → g ≡ sets (sets d ENTRIES_AT (entries_bytes t.entries IDS)) STARTS_AT (starts_bytes t.starts IDS) → g ≡ image_of t
   unfolding image_of
-  image_stored l a b d e g len pa pb pd pe pg =
+  image_stored l a b d g len pa pb pd pg =
       let r = number_bytes t.request.0 8 in
       let s = number_bytes t.base.0 8 in
       let es = entries_bytes t.entries IDS in
@@ -124,8 +130,8 @@ module _ (t : Timetable) (all : length t.owners ≡ LONGEST) where
       pb ∙ rw x (sets_then l 0 OWNERS_AT (r ++ t.length ∷ []) o (omega (arith, length-append r (t.length ∷ [])))) in
       let z : d ≡ sets l 0 (((r ++ t.length ∷ []) ++ o) ++ s) =
       pd ∙ rw y (sets_then l 0 BASE_AT ((r ++ t.length ∷ []) ++ o) s (simp length-append (omega arith))) in
-      let v : e ≡ sets l 0 ((((r ++ t.length ∷ []) ++ o) ++ s) ++ es) =
-      pe ∙ rw z (sets_then l 0 ENTRIES_AT (((r ++ t.length ∷ []) ++ o) ++ s) es (simp length-append (omega arith))) in
+      let v : sets d ENTRIES_AT es ≡ sets l 0 ((((r ++ t.length ∷ []) ++ o) ++ s) ++ es) =
+      rw z (sets_then l 0 ENTRIES_AT (((r ++ t.length ∷ []) ++ o) ++ s) es (simp length-append (omega arith))) in
       let u : g ≡ sets l 0 (((((r ++ t.length ∷ []) ++ o) ++ s) ++ es) ++ ss) =
       pg ∙ rw v (sets_then l 0 STARTS_AT ((((r ++ t.length ∷ []) ++ o) ++ s) ++ es) ss (simp length-append (omega arith))) in
       let f : ((((r ++ t.length ∷ []) ++ o) ++ s) ++ es) ++ ss ≡ image_of t = simp append_assoc in

@@ -1,13 +1,11 @@
 // The image of a timetable: the fields in the order of docs/RULES.md 10.1, numbers high byte first. Nothing here is refused.
 ghost use Rattle.std.specs.Prelude.{drop, length, take, ◌≡◌, ◌+◌, ◌*◌, ◌≤◌, ◌<◌};
 ghost use Rattle.std.proofs.lemmas.List.Edits.{sets};
-ghost use Rattle.board.specs.Image.{ENTRIES_AT, ENTRY, IMAGE, START, STARTS_AT, entries_bytes, entry_at, entry_bytes, image_of, start_at, timetable_at};
-ghost use Rattle.records.specs.Written.{number_bytes};
+ghost use Rattle.board.specs.Image.{ENTRIES_AT, ENTRY, IMAGE, START, STARTS_AT, entries_bytes, entry_at, entry_bytes, image_of, start_at, starts_bytes, timetable_at};
 ghost use Rattle.slots.specs.Limits.{IDS};
 
 use crate::IMAGE;
 use slots::CoreSlot;
-use std::array;
 use timetable::{Entry, Timetable};
 
 // The place of the request slot.
@@ -34,18 +32,24 @@ const STARTS_AT: usize = 273;
 // A start has this many bytes.
 const START: usize = 2;
 
-// The timetable that an image holds.
+// The timetable that an image holds. (Inlined, and read id by id: else the stack of a change holds it, or its arrays, twice.)
+#[inline(always)]
 pub fn timetable_of(image: &[u8; IMAGE]) -> Timetable
     ensures { result ≡ timetable_at image.now }
 {
-    Timetable {
+    let mut t = Timetable {
         request: CoreSlot(u64::from_be_bytes(bytes_at(image, REQUEST_AT))),
         length: image[LENGTH_AT],
         owners: bytes_at(image, OWNERS_AT),
         base: CoreSlot(u64::from_be_bytes(bytes_at(image, BASE_AT))),
-        entries: array::from_fn(|id| entry_of(image, id)),
-        starts: array::from_fn(|id| start_of(image, id)),
+        entries: [Entry::absent(0); Timetable::IDS],
+        starts: [0; Timetable::IDS],
+    };
+    for id in 0..Timetable::IDS {
+        t.entries[id] = entry_of(image, id);
+        t.starts[id] = start_of(image, id);
     }
+    t
 }
 
 // The bytes from a place, as many as are asked for.
@@ -88,16 +92,16 @@ pub fn put_image(image: &mut [u8; IMAGE], t: &Timetable)
     image[LENGTH_AT] = t.length;
     put_bytes(image, OWNERS_AT, &t.owners);
     put_bytes(image, BASE_AT, &t.base.0.to_be_bytes());
-    put_entries(image, &t.entries);
-    put_bytes(image, STARTS_AT, t.starts.map(start_bytes).as_flattened());
+    put_ids(image, t);
 }
 
-// Writes the entries, one behind the other. (Mapped to bytes as the starts are, they are copied four times, 1,000 bytes of a change's stack.)
-fn put_entries(image: &mut [u8; IMAGE], entries: &[Entry; Timetable::IDS])
-    ensures { image.new ≡ sets image.old ENTRIES_AT (entries_bytes entries.now IDS) }
+// Writes the entry and the start of each id.
+fn put_ids(image: &mut [u8; IMAGE], t: &Timetable)
+    ensures { image.new ≡ sets (sets image.old ENTRIES_AT (entries_bytes t.now.entries IDS)) STARTS_AT (starts_bytes t.now.starts IDS) }
 {
-    for (id, e) in entries.iter().enumerate() {
-        put_bytes(image, ENTRIES_AT + ENTRY * id, &entry_bytes(*e));
+    for id in 0..Timetable::IDS {
+        put_bytes(image, ENTRIES_AT + ENTRY * id, &entry_bytes(t.entries[id]));
+        put_bytes(image, STARTS_AT + START * id, &t.starts[id].to_be_bytes());
     }
 }
 
@@ -108,13 +112,6 @@ fn entry_bytes(e: Entry) -> [u8; ENTRY]
     let [p, q] = e.period.to_be_bytes();
     let [s, t] = e.shortfall.to_be_bytes();
     [p, q, e.offset, e.bound, s, t]
-}
-
-// The two bytes of a start.
-fn start_bytes(start: u16) -> [u8; START]
-    ensures { result ≡ number_bytes start START }
-{
-    start.to_be_bytes()
 }
 
 // Writes bytes from a place on.
