@@ -42,7 +42,6 @@ Ascending rs = (i j : ℕ) → i ≤ j → j < length rs → get_or rs i 0 ≤ g
 -- The first count of the ranks are those of all the demands, in order.
 pub record Ranked (es : List Entry) (ranks : List ℕ) (count : ℕ) : Type 0 where
   pub size : length ranks ≡ IDS
-  pub few : count ≤ IDS
   pub demands : demands_of ranks count ≡ ordered es IDS
 
 -- The same of some entries in range, whichever they are.
@@ -53,8 +52,6 @@ pub record InOrderOfSome (ranks : List ℕ) (count : ℕ) : Type 0 where
 
 -- The ids of the first count of the ranks are those that the entries list, each once.
 pub record Listing (es : List Entry) (ranks : List ℕ) (count : ℕ) : Type 0 where
-  pub size : length ranks ≡ IDS
-  pub few : count ≤ IDS
   pub listed : (j : ℕ) → j < count → 0 < (entry_of es (get_or ranks j 0 % IDS)).period
   pub once : (j k : ℕ) → j < k → k < count → get_or ranks j 0 % IDS ≢ get_or ranks k 0 % IDS
   pub every : (i : ℕ) → i < IDS → 0 < (entry_of es i).period → (j : ℕ) × (j < count) × (get_or ranks j 0 % IDS ≡ i)

@@ -33,6 +33,7 @@ impl Taken {
     }
 
     // The largest free offset up to the last offset, a word at a time: the taken slots above it, from the top one of those left, are the leading zeros.
+    // (A `for` over the words from the last one down is no plainer: the first of them is looked at up to the last offset only, the others whole.)
     fn last_free(&self, last: usize) -> Option<usize>
         requires { last < WHOLE }
         ensures finds { Finds self.now.bits last result }
@@ -52,6 +53,7 @@ impl Taken {
     }
 
     // The slots of the offset are taken, those of a word at once.
+    // (A `for` over `step_by` makes a search of lengths 6 % longer, in instructions.)
     fn mark(&mut self, period: usize, offset: usize)
         requires { (is_period period ≡ true) × (offset < period) }
         ensures { TakenToo self.old.bits period offset self.new.bits }

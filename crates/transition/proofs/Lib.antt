@@ -8,3 +8,4 @@ pub mod BestLaws
 pub mod StepLaws
 pub mod SearchLaws
 pub mod RuleThreeLaws
+pub mod Each

@@ -1,11 +1,10 @@
 -- Where the search of lengths stands at each turn, and the answer of each way to leave it. Assumes nothing.
-use lib.ListN.{get_or, length, length-set, set}
-use lib.Seq.{ext_get_or, get_or-set_same, get_or-set_other}
+use lib.ListN.{get_or, length}
+use lib.Seq.{ext_get_or}
 use mathlib.Core.Bool.{Bool, true, false}
 use mathlib.Core.List.{List}
 use mathlib.Core.Option.{Option, none, some}
 use mathlib.Core.Path.{◌≡◌, refl, sym, ap, ◌∙◌, subst}
-use native.Mathlib.Decide.{ℕ_discrete}
 use native.Mathlib.Nat.{sub-zero}
 use native.Mathlib.Numerals.{add-one}
 use native.Mathlib.Omega.{arith}
@@ -18,10 +17,12 @@ use Rattle.placement.specs.Placement.{Place, placement, settle}
 use Rattle.slots.proofs.Below.{true_false}
 use Rattle.slots.specs.Limits.{IDS}
 use Rattle.std.specs.Prelude.{Option as Answer, Some, None}
+use Rattle.timetable.proofs.Entries.{each_at}
 use Rattle.timetable.proofs.Sound.{ranged_from, ranged_is}
 use Rattle.timetable.specs.declared.Entry.{Entry}
 use Rattle.timetable.specs.Sound.{entries_in_range}
-use Rattle.timetable.specs.Timetable.{entry_of, no_entry, with_offset}
+use Rattle.timetable.specs.Timetable.{each, entry_of, no_entry, with_offset}
+use Rattle.transition.proofs.Each.{as_many}
 use Rattle.transition.proofs.Plans.{Step, Longer, longer_told, length_over, over_at_lem, over_ranged}
 use Rattle.transition.proofs.Search.{search_exhausted, search_found, search_missed, search_on}
 use Rattle.transition.specs.Coded.{after, next_of, settled_of, Ready}
@@ -82,12 +83,9 @@ ready_more n plan next len r e = subst (After plan) (sym s.is) (record {
 
 -- ---- the placement
 
--- The offsets so far are put into the entries of the ids below a number.
-pub record Settling (start : List Entry) (offsets : List ℕ) (es : List Entry) (id : ℕ) : Type 0 where
-  pub inside : id ≤ IDS
-  pub size : length es ≡ IDS
-  pub below : (i : ℕ) → i < id → entry_of es i ≡ with_offset (get_or offsets i 0) (entry_of start i)
-  pub above : (i : ℕ) → id ≤ i → entry_of es i ≡ entry_of start i
+-- What each entry becomes: the one with its offset.
+abbrev pub put_in : List ℕ → ℕ → Entry → Entry
+put_in offsets i e = with_offset (get_or offsets i 0) e
 
 module _ (plan : Plan) (size : length plan.entries ≡ IDS) (ready : Ready plan) (ranks : List ℕ) (count : ℕ) (k : Ranked plan.entries ranks count)
     (a : Answer (List ℕ)) (e : a ≡ placed_of (demands_of ranks count)) where
@@ -96,20 +94,22 @@ module _ (plan : Plan) (size : length plan.entries ≡ IDS) (ready : Ready plan)
   unfolding settled_of
   settled_none h = sym (ap (settled_of plan) (placed_none plan.entries ranks count k a e h))
 
-  -- All are put: the entries are those of the placement.
-  pub settled_some : (offsets : List ℕ) → a ≡ Some offsets → (es : List Entry) (id : ℕ) → IDS ≤ id → Settling plan.entries offsets es id
+  -- Where there is one, the entries with its offsets are those that it settles.
+  pub settled_some : (offsets : List ℕ) → a ≡ Some offsets → (es : List Entry) → es ≡ each (put_in offsets) IDS plan.entries
       → (true, record { owners = plan.owners; entries = es }) ≡ settled_of plan (placement plan.entries)
   unfolding settled_of placed
-  settled_some offsets h es id l t =
+  settled_some offsets h es t =
       let w = placed_some plan.entries ranks count k a e offsets h in
       ap (λ (x : List Entry). (true, record { owners = plan.owners; entries = x })) (same w.0 w.2) ∙ sym (ap (settled_of plan) w.1)
     where
       same : (ps : List Place) → offsets ≡ offsets_of ps → es ≡ settle plan.entries ps
       same ps o =
-          ext_get_or no_entry _ _ (t.size ∙ sym (length_settle plan.entries ps ∙ size))
+          let long : length es ≡ IDS = as_many (put_in offsets) plan.entries IDS es t ∙ size in
+          ext_get_or no_entry _ _ (long ∙ sym (length_settle plan.entries ps ∙ size))
           (λ i m.
-          let j : i < IDS = omega (arith, t.size) in
-          t.below i (omega (arith, t.inside)) ∙ ap (λ (x : List ℕ). with_offset (get_or x i 0) (entry_of plan.entries i)) o
+          let j : i < IDS = omega (arith, long) in
+          ap (λ (x : List Entry). entry_of x i) t ∙ each_at (put_in offsets) IDS plan.entries (omega (arith, size)) i j
+          ∙ ap (λ (x : List ℕ). put_in x i (entry_of plan.entries i)) o
           ∙ sym (settle_offsets plan.entries size ready.unplaced ps i j))
 
 -- What the answer of a placement says of it.
@@ -178,14 +178,14 @@ module _ {start : Plan} {limit : ℕ} {plan : Plan} {ranks : List ℕ} {count n 
             let m = given_none plan then (longer n plan) (ap (λ (x : Bool). (x, then)) (sym z) ∙ gives) in
             ends (Missed n) then plan (ap (λ (x : ℕ). search_from x n plan) left ∙ search_missed n plan (limit - (n + 1)) stuck.0 m.0) (sym m.1)
 
-        pub stands_on : given ≡ true → (order : List ℕ) (many : ℕ) → Ranked plan.entries order many → Stands start limit then order many (n + 1)
-        stands_on z order many k =
+        pub stands_on : given ≡ true → (order : List ℕ) (many : ℕ) → many ≤ IDS → Ranked plan.entries order many → Stands start limit then order many (n + 1)
+        stands_on z order many few k =
             let m = given_some plan then (longer n plan) (ap (λ (x : Bool). (x, then)) (sym z) ∙ gives) in
             let q = ready_more n plan then s.size s.ready m in
             record {
               size = q.size;
               ready = q.ready;
-              listing = listing_same plan.entries then.entries q.periods order many (ranked_listing plan.entries s.ready.ranged order many k);
+              listing = listing_same plan.entries then.entries q.periods order many (ranked_listing plan.entries s.ready.ranged order many few k);
               rest =
                   s.rest
                   ∙ ap (λ (x : ℕ). after n (search_from x n plan)) left

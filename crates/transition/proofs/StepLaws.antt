@@ -19,14 +19,16 @@ use Rattle.slots.specs.Below.{count}
 use Rattle.slots.specs.Limits.{IDS, WHOLE, LARGEST_BOUND}
 use Rattle.slots.specs.Shortfall.{over_slot}
 use Rattle.std.specs.Prelude.{Option as Answer, Some, None}
+use Rattle.timetable.proofs.Entries.{each_at}
 use Rattle.timetable.proofs.EntryLaws.{room_below, weight_le}
 use Rattle.timetable.proofs.Ranges.{in_range_from, period_is}
 use Rattle.timetable.proofs.Sound.{Ranged, ranged_from}
 use Rattle.timetable.proofs.SoundLaws.{entry_range}
 use Rattle.timetable.specs.declared.Entry.{Entry}
 use Rattle.timetable.specs.Sound.{entries_in_range, is_period}
-use Rattle.timetable.specs.Timetable.{entry_of, is_listed, no_entry, room, weight, with_shortfall}
+use Rattle.timetable.specs.Timetable.{each, entry_of, is_listed, no_entry, room, weight, with_shortfall}
 use Rattle.transition.proofs.BestLaws.{Best, Beside, best_start, best_unlisted, best_less, best_kept}
+use Rattle.transition.proofs.Each.{as_many, each_more, next_is}
 use Rattle.transition.proofs.Plans.{length_over, over_at_lem}
 use Rattle.transition.proofs.UrgentRule.{Told, missed, unmissed}
 use Rattle.transition.proofs.ToldLaws.{told}
@@ -235,59 +237,49 @@ module _ (es : List Entry) (h : entries_in_range es ≡ true) where
 
 -- ---- the weights
 
--- Every shortfall below id has risen by its weight, and the others are as they were.
-pub record Risen (start es : List Entry) (id : ℕ) : Type 0 where
-  pub inside : id ≤ IDS
-  pub size : length es ≡ IDS
-  pub below : (i : ℕ) → i < id → entry_of es i ≡ over_entry false (entry_of start i)
-  pub above : (i : ℕ) → id ≤ i → entry_of es i ≡ entry_of start i
+-- What each entry becomes first: its shortfall rises by its weight.
+abbrev pub risen : ℕ → Entry → Entry
+risen i e = over_entry false e
 
-module _ (start es : List Entry) (h : entries_in_range start ≡ true) (id : ℕ) (r : Risen start es id) (k : id < IDS) where
+module _ (start es : List Entry) (h : entries_in_range start ≡ true) (id : ℕ) (r : es ≡ each risen id start) (k : id < IDS) where
   -- The next has a period, if it is listed, and can rise.
   pub risen_weighed : 0 < (entry_of es id).period → is_period (entry_of es id).period ≡ true
   risen_weighed l =
-      let e = ap (λ (x : Entry). x.period) (r.above id (omega arith)) in
+      let e = ap (λ (x : Entry). x.period) (next_is risen start id es r) in
       ap is_period e ∙ weighed start h id k (omega (arith, l, e))
 
   pub risen_fits : (w : ℕ) → w ≡ weight (entry_of es id) → (entry_of es id).shortfall + w < 65536
   risen_fits w e =
-      let z = r.above id (omega arith) in
+      let z = next_is risen start id es r in
       omega (arith, ap (λ (x : Entry). x.shortfall) z, rising_fits start h id k w (e ∙ ap (λ (x : Entry). weight x) z))
 
--- One more rises.
-pub risen_next : (start es : List Entry) (id : ℕ) → id < IDS → Risen start es id → (w s : ℕ) → w ≡ weight (entry_of es id)
-    → s ≡ over_slot false w (entry_of es id).shortfall → Risen start (set es id (with_shortfall s (entry_of es id))) (id + 1)
-risen_next start es id k h w s p q = record {
-  inside = omega arith;
-  size = length-set es id (with_shortfall s (entry_of es id)) ∙ h.size;
-  below = λ i l. at i l (ℕ_discrete i id);
-  above = λ i l. get_or-set_other es id i (with_shortfall s (entry_of es id)) no_entry (omega arith) ∙ h.above i (omega arith);
-}
-  where
-    at : (i : ℕ) → i < id + 1 → Dec (i ≡ id) → entry_of (set es id (with_shortfall s (entry_of es id))) i ≡ over_entry false (entry_of start i)
-    at i l (yes e) =
-        rw (e, get_or-set_same es id (with_shortfall s (entry_of es id)) no_entry (omega (arith, h.size)))
-        (ap (λ (x : ℕ). with_shortfall x (entry_of es id)) (q ∙ ap (λ (x : ℕ). over_slot false x (entry_of es id).shortfall) p)
-        ∙ ap (over_entry false) (h.above id (omega arith)))
-    at i l (no e) = get_or-set_other es id i (with_shortfall s (entry_of es id)) no_entry e ∙ h.below i (omega arith)
+-- It rises.
+pub risen_next : (start es : List Entry) (id : ℕ) → es ≡ each risen id start → (w s : ℕ) → w ≡ weight (entry_of es id)
+    → s ≡ over_slot false w (entry_of es id).shortfall → set es id (with_shortfall s (entry_of es id)) ≡ each risen (id + 1) start
+risen_next start es id h w s p q =
+    each_more risen start id es h (with_shortfall s (entry_of es id))
+    (ap (λ (x : ℕ). with_shortfall x (entry_of es id)) (q ∙ ap (λ (x : ℕ). over_slot false x (entry_of es id).shortfall) p))
 
 -- All have, and the owner's is paid.
-pub risen_paid : (start es : List Entry) (id u : ℕ) → length start ≡ IDS → IDS ≤ id → Risen start es id → (w s : ℕ) → w ≡ weight (entry_of start u)
+pub risen_paid : (start es : List Entry) (u : ℕ) → length start ≡ IDS → es ≡ each risen IDS start → (w s : ℕ) → w ≡ weight (entry_of start u)
     → s ≡ over_slot true w (entry_of start u).shortfall → set es u (with_shortfall s (entry_of es u)) ≡ over_all start u
-risen_paid start es id u size k h w s p q =
-    ext_get_or no_entry _ _ (length-set es u (with_shortfall s (entry_of es u)) ∙ h.size ∙ sym (length_over start u ∙ size))
-    (λ i l. let j : i < IDS = omega (arith, length-set es u (with_shortfall s (entry_of es u)), h.size) in at i j (ℕ_discrete i u) ∙ sym (over_at_lem start u size i j))
+risen_paid start es u size h w s p q =
+    ext_get_or no_entry _ _ (long ∙ sym (length_over start u ∙ size))
+    (λ i l. let j : i < IDS = omega (arith, long) in at i j (ℕ_discrete i u) ∙ sym (over_at_lem start u size i j))
   where
-    risen : (i : ℕ) → i < IDS → entry_of es i ≡ over_entry false (entry_of start i)
-    risen i l = h.below i (omega (arith, h.inside))
+    long : length (set es u (with_shortfall s (entry_of es u))) ≡ IDS
+    long = length-set es u (with_shortfall s (entry_of es u)) ∙ as_many risen start IDS es h ∙ size
+
+    has_risen : (i : ℕ) → i < IDS → entry_of es i ≡ over_entry false (entry_of start i)
+    has_risen i l = ap (λ (x : List Entry). entry_of x i) h ∙ each_at risen IDS start (omega (arith, size)) i l
 
     at : (i : ℕ) → i < IDS → Dec (i ≡ u) → entry_of (set es u (with_shortfall s (entry_of es u))) i ≡ over_entry (eqb i u) (entry_of start i)
     at i l (yes e) =
-        rw (← e, get_or-set_same es i (with_shortfall s (entry_of es i)) no_entry (omega (arith, h.size)), eq-eqb i i refl)
-        (ap (with_shortfall s) (risen i l)
+        rw (← e, get_or-set_same es i (with_shortfall s (entry_of es i)) no_entry (omega (arith, as_many risen start IDS es h, size)), eq-eqb i i refl)
+        (ap (with_shortfall s) (has_risen i l)
         ∙ ap (λ (x : ℕ). with_shortfall x (entry_of start i))
         (q ∙ ap (λ (x : ℕ). over_slot true x (entry_of start u).shortfall) p ∙ ap (λ (x : ℕ). over_slot true (weight (entry_of start x)) (entry_of start x).shortfall) (sym e)))
-    at i l (no e) = rw (get_or-set_other es u i (with_shortfall s (entry_of es u)) no_entry e, ne_eqb i u e) (risen i l)
+    at i l (no e) = rw (get_or-set_other es u i (with_shortfall s (entry_of es u)) no_entry e, ne_eqb i u e) (has_risen i l)
 
 -- ---- the plan that follows
 

@@ -10,7 +10,7 @@ use timetable::{over_slot, weight_of};
 
 impl Plan {
     // Gives transition slot n to the most urgent, or changes nothing where it is missed.
-    pub fn longer(&mut self, n: u8) -> bool
+    pub(crate) fn longer(&mut self, n: u8) -> bool
         requires { (n < LONGEST) × (entries_in_range self.old.entries ≡ true) }
         ensures { (result, self.new) ≡ next_of self.old (longer n self.old) }
     {

@@ -1,6 +1,8 @@
 -- `over_all` meets its contract. The loop's invariant: the shortfalls below the index have risen by their weights, and the others are as they were. Assumes nothing.
-use Rattle.transition.proofs.StepLaws.{Risen}
+use mathlib.Core.Path.{◌≡◌}
+use Rattle.timetable.specs.Timetable.{each}
+use Rattle.transition.proofs.StepLaws.{risen}
 use Rattle.transition.proofs.Plan.over_all.Given as goal
 
 abbrev pub invariant-loop-e : goal.invariant-loop-e
-invariant-loop-e l = Risen l.initial.e-items l.e-items l.e-index
+invariant-loop-e l = l.e-items ≡ each risen l.e-index l.initial.e-items

@@ -17,9 +17,6 @@ loop-n-init c =
     let size : length c.args.self.now.entries ≡ IDS = search rules in
     stands_first c.args.limit c.args.self.now _ _ size c.requires.ready c.of-order.ensures
 
-pub place-requires : goal.place-requires
-place-requires c = record { listing = c.loop-n.invariant.listing; ready = c.loop-n.invariant.ready }
-
 pub returns-then-place : goal.returns-then-place
 returns-then-place c = stands_found c.loop-n.invariant c.place.result c.place.new.self c.place.ensures.settled c.if-place.true
 
@@ -37,10 +34,7 @@ returns-then-not-longer c =
 pub loop-n-preserved : goal.loop-n-preserved
 loop-n-preserved c =
     stands_on c.loop-n.invariant c.place.result c.place.new.self c.place.ensures.settled c.if-place.false
-    c.loop-n-test.true c.longer.result c.longer.new.self c.longer.ensures c.if-not-longer.false _ _ c.place.ensures.ranked
-
-pub place-requires-2 : goal.place-requires-2
-place-requires-2 c = record { listing = c.loop-n.invariant.listing; ready = c.loop-n.invariant.ready }
+    c.loop-n-test.true c.longer.result c.longer.new.self c.longer.ensures c.if-not-longer.false _ _ c.place.new.order.few c.place.ensures.ranked
 
 pub returns : goal.returns
 returns c =

@@ -1,7 +1,7 @@
 -- `last_free` meets its contract. The loop's invariant: the search has come down to the slots that are left. Assumes nothing.
 use borrow.Author.Rules.{rules}
 use lib.Count.{count_leading_zeros}
-use mathlib.Core.Path.{◌≡◌, refl}
+use mathlib.Core.Path.{◌≡◌}
 use native.Mathlib.Omega.{arith}
 use Prim.Native.Nat.{ℕ, ◌-◌, ◌≤◌}
 use Rattle.placement.proofs.Table.{passed_free, passed_word, passed_all}
@@ -9,18 +9,6 @@ use Rattle.std.specs.Prelude.{Some}
 use Rattle.placement.specs.Placed.{Finds}
 use Rattle.timetable.specs.Marks.{WORD}
 use Rattle.placement.proofs.taken.Taken.last_free.Goals as goal
-
-pub loop-left-init : goal.loop-left-init
-loop-left-init c = (omega arith, λ ps s. refl)
-
-pub overflow_cast-result : goal.overflow_cast-result
-overflow_cast-result c =
-    let found : let zeros = count_leading_zeros WORD c.free_up_to-free.result in
-    (zeros ≤ c.loop-left.left - 1) × Finds c.args.self.now.bits c.args.last (Some (c.loop-left.left - 1 - zeros)) =
-    let a = c.args in
-    passed_free a.self.now.bits a.last c.loop-left.left c.loop-left.invariant.1 (omega arith) (c.loop-left.left - 1) (omega arith)
-    c.free_up_to-free.result c.free_up_to-free.ensures (omega (arith, c.if-free-ne0.true)) (search rules) in
-    record { fits = omega (arith, found.0) }
 
 pub overflow_sub-result : goal.overflow_sub-result
 overflow_sub-result c =

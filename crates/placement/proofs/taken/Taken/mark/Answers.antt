@@ -1,34 +1,16 @@
 -- `mark` meets its contract. The loop's invariant: the slots of the offset in the words below the word are taken, and no others besides. Assumes nothing.
 use native.Mathlib.Omega.{arith}
 use Rattle.placement.proofs.Table.{marked_all}
-use Rattle.timetable.proofs.Marks.{marked_none, marked_more}
+use Rattle.timetable.proofs.Marks.{marked_more}
 use Rattle.timetable.proofs.Ranges.{Period, period_from, period_le}
 use Rattle.timetable.specs.Marks.{with_bits}
 use Rattle.placement.proofs.taken.Taken.mark.Goals as goal
-
-pub slots_in_word-slots-requires : goal.slots_in_word-slots-requires
-slots_in_word-slots-requires c = c.requires.1
 
 pub stride-stride-requires : goal.stride-stride-requires
 stride-stride-requires c =
     let range : Period c.args.period =
     period_from c.args.period c.requires.0 in
     omega (arith, period_le _ range)
-
-pub loop-word-init : goal.loop-word-init
-loop-word-init c =
-    let range : Period c.args.period =
-    period_from c.args.period c.requires.0 in
-    marked_none c.args.self.now.bits c.args.period c.args.offset range c.requires.1
-
-pub overflow_add-word : goal.overflow_add-word
-overflow_add-word c =
-    let range : Period c.args.period =
-    period_from c.args.period c.requires.0 in
-    record { fits = omega (arith, period_le _ range, c.stride-stride.ensures) }
-
-pub loop-word-smaller : goal.loop-word-smaller
-loop-word-smaller c = omega (arith, c.requires.1, c.stride-stride.ensures)
 
 pub loop-word-preserved : goal.loop-word-preserved
 unfolding with_bits
