@@ -12,6 +12,7 @@ use native.Mathlib.Omega.{arith}
 use Prim.Native.Nat.{ℕ, ◌-◌, ◌≤◌, ◌<◌}
 use Rattle.change.proofs.Start.{length_start, start_at_lem}
 use Rattle.change.specs.Change.{start_plan}
+use Rattle.change.specs.Entered.{entered}
 use Rattle.change.specs.Periods.{ArePeriods}
 use Rattle.change.specs.Stages.{asked_bound, entering, start_entries}
 use Rattle.records.specs.declared.Ask.{Ask}
@@ -19,13 +20,14 @@ use Rattle.records.specs.declared.Request.{Request}
 use Rattle.records.specs.Reads.{AsksRange}
 use Rattle.records.specs.Request.{ask_of}
 use Rattle.slots.specs.Limits.{IDS, LONGEST}
+use Rattle.timetable.proofs.Entries.{each_at, length_each}
 use Rattle.timetable.proofs.Ranges.{period_is}
 use Rattle.timetable.proofs.Since.{shortfall_cycle}
 use Rattle.timetable.proofs.Sound.{Sound}
 use Rattle.timetable.specs.declared.Entry.{Entry}
 use Rattle.timetable.specs.declared.Timetable.{Timetable}
 use Rattle.timetable.specs.Sound.{is_period}
-use Rattle.timetable.specs.Timetable.{absent_entry, entry_of, no_entry, shortfall_after}
+use Rattle.timetable.specs.Timetable.{absent_entry, each, entry_of, no_entry}
 use Rattle.transition.specs.declared.Plan.{Plan}
 
 -- An entry that enters has the period that is asked for, 0 where none is.
@@ -38,22 +40,20 @@ enters_period old start ask = at (dec_lt 0 ask.period)
     at (yes h) = rw (lt-ltb 0 ask.period h)
     at (no h) = rw (le-ltb 0 ask.period (omega arith)) (omega arith)
 
--- An id as it enters, with what it is owed since the base.
-abbrev pub entered : Timetable → Request → ℕ → Entry
-entered t q i = entering (entry_of t.entries i) (shortfall_after (entry_of t.entries i) (q.slot.0 - t.base.0)) (ask_of q.asks i)
-
 module _ (t : Timetable) (q : Request) where
   -- Of a sound timetable these are the entries of the plan of length 0.
-  pub start_entered : Sound t → t.base.0 ≤ q.slot.0 → (es : List Entry) → length es ≡ IDS
-      → ((i : ℕ) → i < IDS → entry_of es i ≡ entered t q i)
+  pub start_entered : Sound t → length t.entries ≡ IDS → t.base.0 ≤ q.slot.0 → (es : List Entry) → es ≡ each (entered (q.slot.0 - t.base.0) q.asks) IDS t.entries
       → ◌≡◌ {A = Plan} (record { owners = replicate LONGEST 0; entries = es }) (start_plan t q)
   unfolding start_plan
-  start_entered s later es len each =
+  start_entered s size later es e =
+      let f = entered (q.slot.0 - t.base.0) q.asks in
+      let len : length es ≡ IDS = ap length e ∙ length_each f IDS t.entries ∙ size in
       ap {B = Plan} (λ (x : List Entry). record { owners = replicate LONGEST 0; entries = x })
       (ext_get_or no_entry _ _ (len ∙ sym (length_start t q.slot q.asks))
       (λ i k.
       let j : i < IDS = omega (arith, len) in
-      each i j
+      ap (λ (x : List Entry). entry_of x i) e
+      ∙ each_at f IDS t.entries (omega (arith, size)) i j
       ∙ ap (λ (x : ℕ). entering (entry_of t.entries i) x (ask_of q.asks i)) (shortfall_cycle t s i j q.slot later)
       ∙ sym (start_at_lem t q.slot q.asks i j)))
 

@@ -7,3 +7,4 @@ pub mod Queried
 pub mod Controller
 pub mod Told
 pub mod Periods
+pub mod Entered

@@ -1,20 +1,20 @@
 // The stages before the search, in the order of docs/RULES.md 7.2, and the plan with which the search begins. The lowest stage wins.
 ghost use Rattle.std.specs.Prelude.{IfErr, IfOk, MatchResult, OnOk, false, true, ◌≡◌, ◌≤◌};
-ghost use Rattle.change.specs.Change.{start_plan};
+ghost use Rattle.change.specs.Entered.{entered};
 ghost use Rattle.change.specs.Periods.{ArePeriods};
 ghost use Rattle.change.specs.Stages.{asked_bound, bound_before, entering, is_behind, stage_behind, stage_overfull, stages_first, stages_listed};
 ghost use Rattle.numbers.specs.Chain.{first_of};
 ghost use Rattle.numbers.specs.declared.Verdict.TheVariants.{Passed, Refused};
 ghost use Rattle.numbers.specs.Numbers.{NOT_SOUND, refusal};
 ghost use Rattle.records.specs.Request.{read_request};
-ghost use Rattle.timetable.specs.Sound.{entry_in_range, is_sound};
-ghost use Rattle.timetable.specs.Timetable.{is_listed, shortfall_after};
+ghost use Rattle.slots.specs.Limits.{IDS};
+ghost use Rattle.timetable.specs.Sound.{entries_in_range, entry_in_range, is_sound};
+ghost use Rattle.timetable.specs.Timetable.{each, is_listed, shortfall_after};
 
 use numbers::Refusal;
 use records::read::read_request;
 use records::{Ask, Reading, Request};
 use timetable::{Entry, SoundTimetable, Timetable, weight_of};
-use transition::Plan;
 
 // The first stage: the timetable as one that is known to be sound.
 pub fn sound_stage<'a>(t: &'a Timetable) -> Result<SoundTimetable<'a>, Refusal>
@@ -43,17 +43,13 @@ pub fn first_stages(t: SoundTimetable, request: &[u8], area: usize) -> Result<Re
     Ok(asked)
 }
 
-// The plan of length 0: no transition slot, and each id enters with its new period and bound, and its shortfall at the request slot.
-pub fn start_plan(t: SoundTimetable, asked: &Request) -> Plan
-    requires { t.timetable.now.base.0 ≤ asked.now.slot.0 }
-    ensures { result ≡ start_plan t.entry.timetable.now asked.now }
+// Lets each id enter the change, from the entries at the base: with its new period and bound, and its shortfall at the request slot.
+pub fn enter_all(entries: &mut [Entry; Timetable::IDS], elapsed: u64, asks: &[Ask; Timetable::IDS])
+    requires { entries_in_range entries.old ≡ true }
+    ensures { entries.new ≡ each (entered elapsed asks.now) IDS entries.old }
 {
-    let elapsed = asked.slot.0 - t.timetable.base.0;
-    let olds = &t.timetable.entries;
-    let entries = std::array::from_fn(|id| enter(olds[id], elapsed, asked.asks[id]));
-    Plan {
-        owners: [0; Timetable::LONGEST],
-        entries,
+    for (id, e) in entries.iter_mut().enumerate() {
+        *e = enter(*e, elapsed, asks[id]);
     }
 }
 

@@ -22,7 +22,11 @@ pub fn grant(t: &mut Timetable, request: &[u8], area: usize) -> Result<u8, Refus
 {
     let sound = t.known_sound();
     let asked = before::first_stages(sound, request, area)?;
-    let mut plan = before::start_plan(sound, &asked);
+    let mut plan = Plan {
+        owners: [0; Timetable::LONGEST],
+        entries: t.entries,
+    };
+    before::enter_all(&mut plan.entries, asked.slot.0 - t.base.0, &asked.asks);
     before::listed_stages(&plan.entries)?;
     searched(t, &asked, &mut plan)
 }
