@@ -1,10 +1,10 @@
 // Writing the 129 bytes of a schedule, in the order of docs/RULES.md 10.6. Nothing here is refused.
 ghost use Rattle.std.specs.Prelude.{length, ◌≡◌, ◌≤◌};
 ghost use Rattle.std.proofs.lemmas.List.Edits.{sets};
-ghost use Rattle.board.specs.Archive.{SCHEDULE, listed_byte, offset_byte, schedule_bytes};
+ghost use Rattle.board.specs.Archive.{SCHEDULE, schedule_bytes};
 
 use crate::SCHEDULE;
-use archive::{IdOffset, Schedule};
+use archive::Schedule;
 
 // The place of the owners.
 const OWNERS_AT: usize = 1;
@@ -22,20 +22,6 @@ pub fn put_schedule(area: &mut [u8], x: Schedule)
 {
     area[0] = x.length;
     area[OWNERS_AT..LISTED_AT].copy_from_slice(&x.owners);
-    area[LISTED_AT..OFFSETS_AT].copy_from_slice(&x.offsets.map(listed_byte));
-    area[OFFSETS_AT..SCHEDULE].copy_from_slice(&x.offsets.map(offset_byte));
-}
-
-// 1 if an id is listed, and else 0.
-fn listed_byte(p: IdOffset) -> u8
-    ensures { result ≡ listed_byte p }
-{
-    u8::from(p.listed)
-}
-
-// The offset of an id.
-fn offset_byte(p: IdOffset) -> u8
-    ensures { result ≡ offset_byte p }
-{
-    p.offset
+    area[LISTED_AT..OFFSETS_AT].copy_from_slice(&x.offsets.map(|p| u8::from(p.listed)));
+    area[OFFSETS_AT..SCHEDULE].copy_from_slice(&x.offsets.map(|p| p.offset));
 }
