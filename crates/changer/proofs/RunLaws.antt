@@ -5,16 +5,17 @@ use mathlib.Core.Path.{◌≡◌, refl, sym, ap, ◌∙◌}
 use native.Mathlib.Omega.{arith}
 use Prim.Native.Nat.{ℕ, suc, ◌-◌, ◌≤◌, ◌<◌}
 use Rattle.changer.specs.Answers.{Answered, Answers, MOST, start_controller}
-use Rattle.changer.specs.declared.Controller.{Controller}
+use Rattle.changer.specs.States.{ControllerState}
 use Rattle.frames.proofs.ProgramLaws.{last_line_lem, line_first, rest_less}
 use Rattle.frames.proofs.RunLaws.{ran_prints}
 use Rattle.frames.specs.Coded.{Puts}
+use Rattle.frames.specs.Places.{InputBuffer, OutputBuffer}
 use Rattle.frames.specs.Program.{lines_from, program_lines}
 use Rattle.frames.specs.Runs.{Prints, put_in}
 use Rattle.frames.specs.Runs.Prints.{last, next}
 
 -- What answers to requests print is what the program prints, from the same number and timetable on.
-prints_lines : {s : Controller} {input text : List ℕ} → Prints Controller Answered s input text → (most : ℕ) → length input ≤ most → lines_from most input s.ordinal s.timetable ≡ text
+prints_lines : {s : ControllerState} {input text : List ℕ} → Prints ControllerState Answered s input text → (most : ℕ) → length input ≤ most → lines_from most input s.ordinal s.timetable ≡ text
 prints_lines {s} {input} (last e) most few = last_line_lem input most s.ordinal s.timetable few e
 prints_lines (next {s} {r} {input} {text} {rest} e a p) most few =
     let less = rest_less input e in
@@ -25,8 +26,8 @@ prints_lines (next {s} {r} {input} {text} {rest} e a p) most few =
     ∙ rw (a.told, ← later, a.ordinal, a.timetable) refl
 
 -- What a whole run put into the output is what the program prints for all that it read.
-pub run_lines : {input out input-after out-after : List ℕ} → (ran : Answers input out input-after out-after) → ran.frames < MOST
-    → put_in Controller Answered Puts start_controller ran ≡ program_lines ran.read
+pub run_lines : {input : InputBuffer} {out : OutputBuffer} {input-after : InputBuffer} {out-after : OutputBuffer} → (ran : Answers input out input-after out-after) → ran.frames < MOST
+    → put_in ControllerState Answered Puts start_controller ran ≡ program_lines ran.read
 unfolding program_lines
 run_lines ran few =
-    sym (prints_lines (ran_prints Controller Answered Puts start_controller ran few) (length ran.read) (omega arith))
+    sym (prints_lines (ran_prints ControllerState Answered Puts start_controller ran few) (length ran.read) (omega arith))

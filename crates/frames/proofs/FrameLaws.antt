@@ -1,44 +1,31 @@
 -- A header's answer is Program's test of a frame, and what moving bytes to the front does to a buffer. Assumes nothing.
-use borrow.Author.Tests.{eq-eqb, eqb-true, le-leb, leb-true, lt-leb, ne_eqb}
+use borrow.Author.Tests.{eq-eqb, eqb-true, le-leb, leb-true}
 use lib.Dec.{eqb, leb}
-use lib.ListN.{get_or-append, drop, get_or, length, length-drop, set, take}
-use lib.Seq.{get_or-drop, length-take-le, sets}
+use lib.ListN.{get_or-append, get_or, length}
 use mathlib.Core.Bool.{Bool, true, false, cond, ◌&&◌}
 use mathlib.Core.List.{List, ◌++◌}
 use mathlib.Core.Path.{◌≡◌, refl, sym, ap, ◌∙◌}
-use native.Mathlib.Nat.{zero-add}
 use native.Mathlib.Omega.{arith}
 use Prim.Native.Nat.{ℕ, ◌+◌, ◌*◌, ◌≤◌, ◌<◌}
 use Rattle.frames.specs.Coded.{head_of}
-use Rattle.frames.specs.declared.Head.TheVariants.{Content, Bad}
+use Rattle.std.specs.Prelude.{Some, None}
 use Rattle.frames.specs.Program.{FRAME_TAG, LONGEST_FRAME, is_frame}
-use Rattle.records.proofs.SetsLaws.{sets_next, sets_rest}
 use Rattle.records.specs.Request.{length_at, number_at}
 use Rattle.slots.proofs.Below.{and_both}
 
 module _ (tag high low : ℕ) where
-  -- Another tag is refused.
-  pub other_tag : (tag ≡ FRAME_TAG → ⊥) → Bad ≡ head_of tag high low
-  unfolding head_of
-  other_tag h = simp (ne_eqb _ _ h)
-
-  -- A longer content is refused.
-  pub too_long : tag ≡ FRAME_TAG → LONGEST_FRAME < 256 * high + low → Bad ≡ head_of tag high low
-  unfolding head_of
-  too_long e h = simp (eq-eqb _ _ e, lt-leb _ _ h)
-
-  -- Any other header is taken.
-  pub fitting : tag ≡ FRAME_TAG → 256 * high + low ≤ LONGEST_FRAME → Content (256 * high + low) ≡ head_of tag high low
+  -- A header with its tag and a length that is short enough is taken.
+  pub fitting : tag ≡ FRAME_TAG → 256 * high + low ≤ LONGEST_FRAME → Some (256 * high + low) ≡ head_of tag high low
   unfolding head_of
   fitting e h = simp (eq-eqb _ _ e, le-leb _ _ h)
 
   -- Only such a header is taken.
-  pub taken : (n : ℕ) → head_of tag high low ≡ Content n → (tag ≡ FRAME_TAG) × (256 * high + low ≤ LONGEST_FRAME) × (256 * high + low ≡ n)
+  pub taken : (n : ℕ) → head_of tag high low ≡ Some n → (tag ≡ FRAME_TAG) × (256 * high + low ≤ LONGEST_FRAME) × (256 * high + low ≡ n)
   unfolding head_of
   taken n = at (eqb tag FRAME_TAG) (leb (256 * high + low) LONGEST_FRAME) refl refl
     where
       at : (a b : Bool) → eqb tag FRAME_TAG ≡ a → leb (256 * high + low) LONGEST_FRAME ≡ b
-          → cond (a && b) (Content (256 * high + low)) Bad ≡ Content n
+          → cond (a && b) (Some (256 * high + low)) None ≡ Some n
           → (tag ≡ FRAME_TAG) × (256 * high + low ≤ LONGEST_FRAME) × (256 * high + low ≡ n)
       at true true e f h = (eqb-true _ _ e, leb-true _ _ f, cc)
       at true false e f h = let z : ◌≡◌ {A = ℕ} 0 1 = cc in absurd (omega arith)
@@ -51,7 +38,7 @@ module _ (s : List ℕ) where
   stated = omega arith
 
   -- If the header is taken and the content is there, a frame stands there, of that length.
-  pub head_framed : (n : ℕ) → head_of (get_or s 0 0) (get_or s 1 0) (get_or s 2 0) ≡ Content n → 3 + n ≤ length s
+  pub head_framed : (n : ℕ) → head_of (get_or s 0 0) (get_or s 1 0) (get_or s 2 0) ≡ Some n → 3 + n ≤ length s
       → (is_frame s ≡ true) × (length_at s 0 ≡ n)
   unfolding is_frame
   head_framed n e h =
@@ -61,7 +48,7 @@ module _ (s : List ℕ) where
 
   -- If a frame stands there, the header is taken and the content is there.
   pub framed_head : is_frame s ≡ true
-      → (head_of (get_or s 0 0) (get_or s 1 0) (get_or s 2 0) ≡ Content (length_at s 0)) × (3 + length_at s 0 ≤ length s)
+      → (head_of (get_or s 0 0) (get_or s 1 0) (get_or s 2 0) ≡ Some (length_at s 0)) × (3 + length_at s 0 ≤ length s)
   unfolding is_frame
   framed_head f =
       let here = eqb (get_or s 0 0) FRAME_TAG in
@@ -71,7 +58,7 @@ module _ (s : List ℕ) where
       let r = and_both (leb 3 (length s)) here q.0 in
       let l = leb-true (length_at s 0) LONGEST_FRAME q.1 in
       let e = stated in
-      (sym (fitting _ _ _ (eqb-true _ _ r.1) (omega arith)) ∙ ap Content (sym e), leb-true _ _ p.1)
+      (sym (fitting _ _ _ (eqb-true _ _ r.1) (omega arith)) ∙ ap Some (sym e), leb-true _ _ p.1)
 
 -- A test that cannot hold does not.
 refuted : (b : Bool) → (b ≡ true → ⊥) → b ≡ false
@@ -84,12 +71,12 @@ module _ (s : List ℕ) where
   cut_head h = refuted (is_frame s) (λ f. omega (arith, (framed_head s f).1))
 
   -- Where the content is cut off, no frame stands.
-  pub cut_content : (n : ℕ) → head_of (get_or s 0 0) (get_or s 1 0) (get_or s 2 0) ≡ Content n → length s < 3 + n → is_frame s ≡ false
+  pub cut_content : (n : ℕ) → head_of (get_or s 0 0) (get_or s 1 0) (get_or s 2 0) ≡ Some n → length s < 3 + n → is_frame s ≡ false
   cut_content n e h =
       refuted (is_frame s) (λ f. let p = framed_head s f in let same : length_at s 0 ≡ n = cc in omega (arith, p.1))
 
   -- Where the header is bad, no frame stands, whatever follows.
-  pub bad_head : 3 ≤ length s → head_of (get_or s 0 0) (get_or s 1 0) (get_or s 2 0) ≡ Bad → (more : List ℕ) → is_frame (s ++ more) ≡ false
+  pub bad_head : 3 ≤ length s → head_of (get_or s 0 0) (get_or s 1 0) (get_or s 2 0) ≡ None → (more : List ℕ) → is_frame (s ++ more) ≡ false
   bad_head h e more =
       refuted (is_frame (s ++ more))
       (λ f.
@@ -98,12 +85,3 @@ module _ (s : List ℕ) where
       let b = get_or-append s more 0 1 (omega arith) in
       let c = get_or-append s more 0 2 (omega arith) in
       let z : ◌≡◌ {A = ℕ} 0 1 = cc in omega arith)
-
--- A buffer whose bytes from a place on are moved to the front: one byte more.
-pub moved_more : (l : List ℕ) (from i : ℕ) → from + i < length l
-    → set (sets l 0 (take i (drop from l))) i (get_or (sets l 0 (take i (drop from l))) (from + i) 0) ≡ sets l 0 (take (i + 1) (drop from l))
-moved_more l from i h =
-    let n : i < length (drop from l) = simp length-drop (omega arith) in
-    let k : length (take i (drop from l)) ≤ from + i = omega (arith, length-take-le i (drop from l) (omega arith)) in
-    ap (set (sets l 0 (take i (drop from l))) i) (sets_rest l 0 (from + i) (take i (drop from l)) (omega arith) ∙ sym (get_or-drop from l i 0))
-    ∙ rw zero-add at (sets_next l (drop from l) 0 i n)

@@ -1,4 +1,5 @@
 pub mod BufferLaws
+pub mod CopyLaws
 pub mod FrameLaws
 pub mod InputLaws
 pub mod LineLaws

@@ -1,12 +1,12 @@
 -- A text put into a buffer, one after another; the digits that `io` writes; a line from its numbers. Assumes nothing.
 use borrow.Author.Tests.{le-ltb, lt-ltb}
-use lib.ListN.{length-append, set}
-use lib.Seq.{sets}
+use lib.ListN.{length, length-append}
+use lib.Seq.{length-sets, sets}
 use mathlib.Core.List.{List, [], ◌∷◌, ◌++◌, append_assoc}
 use mathlib.Core.Path.{◌≡◌, refl, sym, ap, ◌∙◌}
 use native.Mathlib.Nat.{lt_of_not-le, one-le-pow, pow-le-pow_right, pow-succ'}
 use native.Mathlib.Omega.{arith}
-use Prim.Native.Nat.{ℕ, zero, suc, ◌+◌, ◌-◌, ◌*◌, ◌/◌, ◌%◌, ◌^◌, ◌≤◌, ◌<◌}
+use Prim.Native.Nat.{ℕ, zero, suc, ◌-◌, ◌*◌, ◌/◌, ◌%◌, ◌^◌, ◌≤◌, ◌<◌}
 use Rattle.frames.specs.Coded.{Puts}
 use Rattle.frames.specs.Program.{decimal, digits, line_of}
 use Rattle.io.specs.Digits.{IsDigitCount, last_digits as io-digits}
@@ -51,13 +51,17 @@ put_more l at a m p f b n r g =
       bytes = g.bytes ∙ ap (λ (x : List ℕ). sets x p b) f.bytes ∙ sets_then l at p a b f.end;
     }
 
+-- A buffer keeps its length where a text is put into it.
+pub puts_length : (l : List ℕ) (at : ℕ) (text m : List ℕ) (p : ℕ) → Puts l at text m p → length m ≡ length l
+puts_length l at text m p f = ap length f.bytes ∙ length-sets l at text
+
 -- The digits of a number and the byte behind them were put.
 pub put_number : (l : List ℕ) (at n k x : ℕ) (text m : List ℕ) (p : ℕ) → k ≤ 20 → IsDigitCount 10 1 n k → text ≡ io-digits 10 k n → Puts l at text m p
-    → Puts l at (decimal n ++ (x ∷ [])) (set m p x) (p + 1)
+    → (m' : List ℕ) (p' : ℕ) → Puts m p (x ∷ []) m' p' → Puts l at (decimal n ++ (x ∷ [])) m' p'
 unfolding decimal
-put_number l at n k x text m p few fewest e f =
+put_number l at n k x text m p few fewest e f m' p' g =
     let t : digits 20 n ≡ text = digits_io 20 k n few fewest ∙ sym e in
-    rw t (put_more l at text m p f (x ∷ []) (set m p x) (p + 1) (record { end = refl; bytes = refl }))
+    rw t (put_more l at text m p f (x ∷ []) m' p' g)
 
 -- A space behind a text or before the next one.
 next : (a b t : List ℕ) → a ++ (32 ∷ []) ++ (b ++ t) ≡ a ++ (32 ∷ b) ++ t

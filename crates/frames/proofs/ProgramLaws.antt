@@ -9,24 +9,25 @@ use native.Mathlib.Omega.{arith}
 use Prim.Native.Nat.{ℕ, zero, suc, ◌+◌, ◌-◌, ◌≤◌, ◌<◌, zero-le}
 use Rattle.change.specs.Change.{answer}
 use Rattle.frames.proofs.FrameLaws.{framed_head, head_framed}
-use Rattle.frames.proofs.InputLaws.{unread_length}
-use Rattle.frames.specs.Buffers.{Awaited, More, ReadOn, Still, next_of, unread}
+use Rattle.frames.proofs.InputLaws.{between_length}
+use Rattle.frames.specs.Buffers.{Awaited, More, ReadOn, Still, between, next_of, unread}
 use Rattle.frames.specs.declared.stream.Next.{Next}
 use Rattle.frames.specs.declared.stream.Next.TheVariants.{Frame, Part, Bad}
-use Rattle.frames.specs.declared.stream.Places.{Places}
+use Rattle.frames.specs.Places.{InputBuffer, OutputBuffer}
+use Rattle.std.specs.Prelude.{Option}
 use Rattle.frames.specs.Program.{frame_content, frame_rest, is_bad, is_frame, last_line, line, lines_from}
 use Rattle.records.specs.Request.{length_at}
 use Rattle.slots.specs.Limits.{AREA}
 use Rattle.timetable.specs.declared.Timetable.{Timetable}
 
 -- What lies between two places is what lies before a place between them, and then what lies behind it.
-unread_split : (l : List ℕ) (from mid to : ℕ) → from ≤ mid → mid ≤ to → unread l from to ≡ unread l from mid ++ unread l mid to
-unread_split l from mid to a b =
+between_split : (l : List ℕ) (from mid to : ℕ) → from ≤ mid → mid ≤ to → between l from to ≡ between l from mid ++ between l mid to
+between_split l from mid to a b =
     let n : to - from ≡ (mid - from) + (to - mid) = omega arith in
     let m : from + (mid - from) ≡ mid = omega arith in
     ap (λ (k : ℕ). take k (drop from l)) n
     ∙ take-add (mid - from) (to - mid) (drop from l)
-    ∙ ap (λ (r : List ℕ). unread l from mid ++ take (to - mid) r) (drop-drop (mid - from) from l ∙ ap (λ (k : ℕ). drop k l) m)
+    ∙ ap (λ (r : List ℕ). between l from mid ++ take (to - mid) r) (drop-drop (mid - from) from l ∙ ap (λ (k : ℕ). drop k l) m)
 
 -- A frame stays one, of the same length, whatever follows.
 framed_more : (s more : List ℕ) → is_frame s ≡ true → (is_frame (s ++ more) ≡ true) × (length_at (s ++ more) 0 ≡ length_at s 0)
@@ -53,48 +54,45 @@ module _ (s head content rest : List ℕ) (split : s ≡ head ++ (content ++ res
       ap (drop (3 + length_at s 0)) (split ∙ sym (append_assoc head content rest))
       ∙ drop_at (head ++ content) rest (3 + length_at s 0) (simp length-append (omega arith))
 
-module _ (l : List ℕ) (from end to : ℕ) (fits : end ≤ to) (inside : to ≤ length l) (whole : is_frame (unread l from to) ≡ true) (size : end ≡ from + 3 + length_at (unread l from to) 0) (more : List ℕ) where
+module _ (l : List ℕ) (from end to : ℕ) (fits : end ≤ to) (inside : to ≤ length l) (whole : is_frame (between l from to) ≡ true) (size : end ≡ from + 3 + length_at (between l from to) 0) (more : List ℕ) where
   -- A whole frame ahead is the header, the content, and what is behind them.
-  parts : unread l from to ++ more ≡ unread l from (from + 3) ++ (unread l (from + 3) end ++ (unread l end to ++ more))
+  parts : between l from to ++ more ≡ between l from (from + 3) ++ (between l (from + 3) end ++ (between l end to ++ more))
   parts =
-      let all : unread l from to ≡ unread l from (from + 3) ++ (unread l (from + 3) end ++ unread l end to) =
-      unread_split l from (from + 3) to (omega arith) (omega arith)
-      ∙ ap (λ (s : List ℕ). unread l from (from + 3) ++ s) (unread_split l (from + 3) end to (omega arith) fits) in
+      let all : between l from to ≡ between l from (from + 3) ++ (between l (from + 3) end ++ between l end to) =
+      between_split l from (from + 3) to (omega arith) (omega arith)
+      ∙ ap (λ (s : List ℕ). between l from (from + 3) ++ s) (between_split l (from + 3) end to (omega arith) fits) in
       ap (λ (s : List ℕ). s ++ more) all ∙ simp append_assoc
 
   -- So it stands there, whatever follows, with that content, and that behind it.
-  pub frame_parts : (is_frame (unread l from to ++ more) ≡ true) × (frame_content (unread l from to ++ more) ≡ unread l (from + 3) end) × (frame_rest (unread l from to ++ more) ≡ unread l end to ++ more)
+  pub frame_parts : (is_frame (between l from to ++ more) ≡ true) × (frame_content (between l from to ++ more) ≡ between l (from + 3) end) × (frame_rest (between l from to ++ more) ≡ between l end to ++ more)
   frame_parts =
-      let s = unread l from to ++ more in
-      let framed = framed_more (unread l from to) more whole in
-      let three : length (unread l from (from + 3)) ≡ 3 = unread_length l from (from + 3) (omega arith) (omega arith) ∙ omega arith in
-      let stated : length (unread l (from + 3) end) ≡ length_at s 0 = unread_length l (from + 3) end (omega arith) (omega arith) ∙ omega (arith, framed.1) in (
+      let s = between l from to ++ more in
+      let framed = framed_more (between l from to) more whole in
+      let three : length (between l from (from + 3)) ≡ 3 = between_length l from (from + 3) (omega arith) (omega arith) ∙ omega arith in
+      let stated : length (between l (from + 3) end) ≡ length_at s 0 = between_length l (from + 3) end (omega arith) (omega arith) ∙ omega (arith, framed.1) in (
         framed.0,
-        content_part s (unread l from (from + 3)) (unread l (from + 3) end) (unread l end to ++ more) parts three stated,
-        rest_part s (unread l from (from + 3)) (unread l (from + 3) end) (unread l end to ++ more) parts three stated,
+        content_part s (between l from (from + 3)) (between l (from + 3) end) (between l end to ++ more) parts three stated,
+        rest_part s (between l from (from + 3)) (between l (from + 3) end) (between l end to ++ more) parts three stated,
       )
 
 -- Once a frame was awaited, what was unread stands first in what is unread then.
-pub awaited_more : (from to put : ℕ) (input out input-after out-after : List ℕ) (r : Places) → from ≤ to → to ≤ length input → Awaited from to put input out input-after out-after r
-    → unread input-after r.from r.to ≡ unread input from to ++ unread input-after (r.from + (to - from)) r.to
-awaited_more from to put input out input-after out-after r order inside a = by_next (next_of (unread input from to)) a.read
+pub awaited_more : (i then : InputBuffer) (o out-then : OutputBuffer) (ahead : Option ℕ) → i.from ≤ i.to → Awaited i o then out-then ahead
+    → unread then ≡ unread i ++ between then.bytes (then.from + (i.to - i.from)) then.to
+awaited_more i then o out-then ahead order a = by_next (next_of (unread i)) a.read
   where
-    still : Still from to put input r.from r.to a.waiting input-after
-        → unread input-after r.from r.to ≡ unread input from to ++ unread input-after (r.from + (to - from)) r.to
+    still : Still i o.put then a.waiting → unread then ≡ unread i ++ between then.bytes (then.from + (i.to - i.from)) then.to
     still h =
-        let n : to - (from + (to - from)) ≡ 0 = omega arith in
-        rw (h.0, h.1, h.3) (sym (ap (λ (k : ℕ). unread input from to ++ take k (drop (from + (to - from)) input)) n ∙ append-nil (unread input from to)))
+        let n : i.to - (i.from + (i.to - i.from)) ≡ 0 = omega arith in
+        rw h.0 (sym (ap (λ (k : ℕ). unread i ++ take k (drop (i.from + (i.to - i.from)) i.bytes)) n ∙ append-nil (unread i)))
 
-    more : More from to input r.from r.to a.waiting input-after
-        → unread input-after r.from r.to ≡ unread input from to ++ unread input-after (r.from + (to - from)) r.to
+    more : More i then a.waiting → unread then ≡ unread i ++ between then.bytes (then.from + (i.to - i.from)) then.to
     more h =
-        let z : 0 + (to - from) ≡ to - from = omega arith in
-        let n : to - from - 0 ≡ to - from = omega arith in
-        let front : unread input-after 0 (to - from) ≡ unread input from to = ap (λ (k : ℕ). take k input-after) n ∙ h.3 in
-        rw (h.0, z) (unread_split input-after 0 (to - from) r.to zero-le h.2 ∙ ap (λ (l : List ℕ). l ++ unread input-after (to - from) r.to) front)
+        let z : 0 + (i.to - i.from) ≡ i.to - i.from = omega arith in
+        let n : i.to - i.from - 0 ≡ i.to - i.from = omega arith in
+        let front : between then.bytes 0 (i.to - i.from) ≡ unread i = ap (λ (k : ℕ). take k then.bytes) n ∙ h.3 in
+        rw (h.0, z) (between_split then.bytes 0 (i.to - i.from) then.to zero-le h.2 ∙ ap (λ (l : List ℕ). l ++ between then.bytes (i.to - i.from) then.to) front)
 
-    by_next : (next : Next) → ReadOn next from to put input r.from r.to a.waiting input-after
-        → unread input-after r.from r.to ≡ unread input from to ++ unread input-after (r.from + (to - from)) r.to
+    by_next : (next : Next) → ReadOn next i o.put then a.waiting → unread then ≡ unread i ++ between then.bytes (then.from + (i.to - i.from)) then.to
     by_next (Frame size) h = still h
     by_next Part h = more h
     by_next Bad h = still h

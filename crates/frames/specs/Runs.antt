@@ -1,7 +1,7 @@
 -- docs/RULES.md 9.6: a run of a program over frames, for any program: what the content of a frame gives from a state of it, and how a text is put into the output.
-use Rattle.std.specs.Prelude.{length, true, false, List, [], ◌++◌, ◌≡◌, ℕ, zero, suc, ◌+◌, ◌-◌, ◌<◌}
-use Rattle.frames.specs.Buffers.{Awaited, Inside, unread}
-use Rattle.frames.specs.declared.stream.Places.{Places}
+use Rattle.std.specs.Prelude.{true, false, List, Option, Some, None, [], ◌++◌, ◌≡◌, ℕ, zero, suc, ◌+◌, ◌-◌, ◌<◌}
+use Rattle.frames.specs.Buffers.{Awaited, Inside, behind, between, content_of, unread}
+use Rattle.frames.specs.Places.{InputBuffer, OutputBuffer}
 use Rattle.frames.specs.Program.{frame_content, frame_rest, is_frame, last_line}
 
 module _ (State : Type 0) (Gives : State → List ℕ → List ℕ → State → Type 0) where
@@ -11,27 +11,28 @@ module _ (State : Type 0) (Gives : State → List ℕ → List ℕ → State →
     next : {s r : State} {input text rest : List ℕ} → is_frame input ≡ true → Gives s (frame_content input) text r → Prints r (frame_rest input) rest → Prints s input (text ++ rest)
 
   module _ (Put : List ℕ → ℕ → List ℕ → List ℕ → ℕ → Type 0) (first : State) where
-    -- From where a program stands once the first frame was awaited: where it stands once some frames were answered, what its two buffers hold then, all that it read, and all that its answers put.
-    pub data Runs (begin : Places) (input out : List ℕ) : State → Places → List ℕ → List ℕ → List ℕ → List ℕ → ℕ → Type 0 where
-      start : Runs begin input out first begin input out (unread input begin.from begin.to) [] zero
-      frame : {s r : State} {p q : Places} {i i' o o' o'' read text put : List ℕ} {n next : ℕ} → Runs begin input out s p i o read put n → p.«open» ≡ true → Inside p (length i) (length o)
-          → Gives s (unread i (p.from + 3) p.end) text r → Put o p.put text o' next → Awaited p.end p.to next i o' i' o'' q
-          → Runs begin input out r q i' o'' (read ++ unread i' (q.from + (p.to - p.end)) q.to) (put ++ text) (suc n)
+    -- From where a program stands once the first frame was awaited: where it stands once some frames were answered, which frame stands ahead then, all that it read, and all that its answers put.
+    pub data Runs (begin : Option ℕ) (input : InputBuffer) (out : OutputBuffer) : State → Option ℕ → InputBuffer → OutputBuffer → List ℕ → List ℕ → ℕ → Type 0 where
+      start : Runs begin input out first begin input out (unread input) [] zero
+      frame : {s r : State} {a b : Option ℕ} {i i' : InputBuffer} {o o' o'' : OutputBuffer} {read text put : List ℕ} {size n : ℕ} → Runs begin input out s a i o read put n → a ≡ Some size → Inside i o size
+          → Gives s (content_of i size) text r → Put o.bytes o.put text o'.bytes o'.put → Awaited (behind i size) o' i' o'' b
+          → Runs begin input out r b i' o'' (read ++ between i'.bytes (i'.from + ((behind i size).to - (behind i size).from)) i'.to) (put ++ text) (suc n)
 
-    -- The first frame was awaited with nothing read, and frames were answered until the input was over, or as many as the program counts.
-    pub record Ran (most : ℕ) (input out input-after out-after : List ℕ) : Type 0 where
-      pub begin : Places
-      pub held : List ℕ
-      pub waiting : List ℕ
-      pub awaited : Awaited 0 0 0 input out held waiting begin
+    -- The first frame was awaited, and frames were answered until the input was over, or as many as the program counts. What waited then was printed.
+    pub record Ran (most : ℕ) (input : InputBuffer) (out : OutputBuffer) (input-after : InputBuffer) (out-after : OutputBuffer) : Type 0 where
+      pub begin : Option ℕ
+      pub held : InputBuffer
+      pub waiting : OutputBuffer
+      pub awaited : Awaited input out held waiting begin
       pub state : State
-      pub places : Places
+      pub ahead : Option ℕ
+      pub put : ℕ
       pub read : List ℕ
       pub answers : List ℕ
       pub frames : ℕ
-      pub runs : Runs begin held waiting state places input-after out-after read answers frames
-      pub over : frames < most → places.«open» ≡ false
+      pub runs : Runs begin held waiting state ahead input-after (record { bytes = out-after.bytes; put = put }) read answers frames
+      pub over : frames < most → ahead ≡ None
 
     -- All that a run put into the output.
-    abbrev pub put_in : {most : ℕ} {input out input-after out-after : List ℕ} → Ran most input out input-after out-after → List ℕ
-    put_in {most} {input} {out} {input-after} ran = ran.answers ++ last_line (unread input-after ran.places.from ran.places.to)
+    abbrev pub put_in : {most : ℕ} {input : InputBuffer} {out : OutputBuffer} {input-after : InputBuffer} {out-after : OutputBuffer} → Ran most input out input-after out-after → List ℕ
+    put_in {most} {input} {out} {input-after} ran = ran.answers ++ last_line (unread input-after)

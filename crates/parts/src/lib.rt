@@ -1,4 +1,4 @@
-// The parts of a probe, and of the line that answers it (docs/PROBE.md). A content that ends early is read as if zeros followed; a full buffer is printed on the way.
+// The parts of a probe, and of the line that answers it (docs/PROBE.md). A content that ends early is read as if zeros followed.
 #![tactic(auto)]
 
 pub mod printing; // printing.rt: the parts of a line

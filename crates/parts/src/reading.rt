@@ -1,104 +1,105 @@
 // Reading the parts of a probe. A content that ends early is read as if zeros followed.
-ghost use Rattle.std.specs.Prelude.{get_or, length, ◌≡◌, min, ◌+◌, ◌-◌, ◌*◌, ◌%◌, ◌^◌, ◌≤◌, ◌<◌};
+ghost use Rattle.std.specs.Prelude.{drop, get_or, length, take, ◌≡◌, ◌+◌, ◌-◌, ◌≤◌, ◌<◌};
+ghost use Rattle.parts.specs.Pattern.{IsFilled, pattern_byte};
 
-// Where packed bytes stand: the next of them, the zeros of a run that are still to come, and the byte that came last.
+// What is still to be read of a probe's content.
 #[derive(Clone, Copy)]
-struct Packed {
-    at: usize,
-    zeros: u8,
-    byte: u8,
+pub struct Reader<'a> {
+    rest: &'a [u8],
 }
 
-// The byte at a place, 0 past the end.
-pub fn byte_at(content: &[u8], at: usize) -> u8
-    ensures { (at < length content.now → result ≡ get_or content.now at 0) × (length content.now ≤ at → result ≡ 0) }
-{
-    if at < content.len() { content[at] } else { 0 }
-}
-
-// The place some bytes further on, or the end.
-pub fn after(content: &[u8], at: usize, count: usize) -> usize
-    ensures { result ≡ min (at + count) (length content.now) }
-{
-    let end = content.len();
-    if end <= at {
-        return end;
+impl<'a> Reader<'a> {
+    // All of a content is still to be read.
+    pub fn new(content: &'a [u8]) -> Reader<'a>
+        ensures { result.rest.now ≡ content.now }
+    {
+        Reader { rest: content }
     }
-    at + least(count, end - at)
-}
 
-// The smaller of two numbers.
-pub fn least(a: usize, b: usize) -> usize
-    ensures { result ≡ min a b }
-{
-    if a < b { a } else { b }
-}
-
-// The number that some bytes from a place write, high byte first.
-pub fn number_at(content: &[u8], from: usize, count: usize) -> u64 {
-    let mut n: u64 = 0;
-    let mut at = from;
-    let mut left = count;
-    while 0 < left {
-        n = longer(n, byte_at(content, at));
-        at = after(content, at, 1);
-        left -= 1;
-    }
-    n
-}
-
-// A number with one byte more at its low end. What passes 64 bits is lost.
-fn longer(n: u64, low: u8) -> u64
-    ensures { result ≡ n % (2 ^ 56) * 256 + low }
-{
-    n % 72057594037927936 * 256 + (low as u64)
-}
-
-// The length that two bytes at a place state, as far as there is room.
-pub fn length_at(content: &[u8], at: usize, room: usize) -> usize
-    ensures { result ≤ room }
-{
-    least(number_at(content, at, 2) as usize, room)
-}
-
-// Fills an image with the packed bytes from a place on, and tells the place after them.
-pub fn unpack(content: &[u8], from: usize, image: &mut [u8]) -> usize {
-    let mut p = Packed {
-        at: from,
-        zeros: 0,
-        byte: 0,
-    };
-    let mut i = 0;
-    while i < image.len() {
-        p = next(content, p);
-        image[i] = p.byte;
-        i += 1;
-    }
-    p.at
-}
-
-// The next byte that packed bytes stand for.
-fn next(content: &[u8], p: Packed) -> Packed {
-    let at = p.at;
-    if 0 < p.zeros {
-        return Packed {
-            at,
-            zeros: p.zeros - 1,
-            byte: 0,
+    // The next byte, 0 past the end.
+    pub fn byte(&mut self) -> u8
+        ensures { (result ≡ get_or self.old.rest.now 0 0) × (self.new.rest.now ≡ drop 1 self.old.rest.now) }
+    {
+        let Some((byte, rest)) = self.rest.split_first() else {
+            return 0;
         };
+        self.rest = rest;
+        *byte
     }
-    let byte = byte_at(content, at);
-    if byte != 0 {
-        return Packed {
-            at: after(content, at, 1),
-            zeros: 0,
-            byte,
-        };
+
+    // As many bytes more as a number needs.
+    fn bytes<const N: usize>(&mut self) -> [u8; N]
+        ensures { self.new.rest.now ≡ drop N self.old.rest.now }
+    {
+        let mut bytes = [0; N];
+        for byte in bytes.iter_mut() {
+            *byte = self.byte();
+        }
+        bytes
     }
-    Packed {
-        at: after(content, at, 2),
-        zeros: rest_of_run(byte_at(content, after(content, at, 1))),
-        byte: 0,
+
+    // A number of eight bytes, high byte first.
+    pub fn number(&mut self) -> u64
+        ensures { self.new.rest.now ≡ drop 8 self.old.rest.now }
+    {
+        u64::from_be_bytes(self.bytes())
+    }
+
+    // The length that two bytes state, as far as there is room.
+    pub fn length(&mut self, room: usize) -> usize
+        ensures upper_bound { result ≤ room }
+        ensures rest { self.new.rest.now ≡ drop 2 self.old.rest.now }
+    {
+        usize::from(u16::from_be_bytes(self.bytes())).min(room)
+    }
+
+    // The bytes that stand behind their length, as far as the content goes.
+    pub fn record(&mut self) -> &'a [u8]
+        ensures record { result.now ≡ take (length result.now) (drop 2 self.old.rest.now) }
+        ensures rest { self.new.rest.now ≡ drop (2 + length result.now) self.old.rest.now }
+    {
+        let size = usize::from(u16::from_be_bytes(self.bytes()));
+        let (record, rest) = self.rest.split_at(size.min(self.rest.len()));
+        self.rest = rest;
+        record
+    }
+
+    // An image, in a buffer: its length, as far as there is room, and then its bytes packed.
+    pub fn image<'b>(&mut self, buffer: &'b mut [u8]) -> &'b mut [u8]
+        ensures { length result.now ≤ length buffer.old }
+    {
+        let size = self.length(buffer.len());
+        let image = &mut buffer[..size];
+        self.unpack(image);
+        image
+    }
+
+    // An area, in a buffer: its length, as far as there is room, and then the pattern that it is filled with.
+    pub fn area<'b>(mut self, buffer: &'b mut [u8]) -> (&'b mut [u8], Pattern<'a>)
+        ensures upper_bound { length result.0.now ≤ length buffer.old }
+        ensures filled { IsFilled result.1.0.now result.0.now }
+    {
+        let length = self.length(buffer.len());
+        let area = &mut buffer[..length];
+        let pattern = Pattern(self.rest);
+        pattern.fill(area);
+        (area, pattern)
+    }
+
+    // Fills an image with what packed bytes stand for.
+    fn unpack(&mut self, image: &mut [u8]) {
+        let mut zeros = 0;
+        for byte in image.iter_mut() {
+            if zeros > 0 {
+                zeros -= 1;
+                *byte = 0;
+            } else {
+                *byte = self.byte();
+                if *byte == 0 {
+                    zeros = rest_of_run(self.byte());
+                }
+            }
+        }
     }
 }
 
@@ -106,22 +107,30 @@ fn next(content: &[u8], p: Packed) -> Packed {
 fn rest_of_run(count: u8) -> u8
     ensures { (0 < count → result ≡ count - 1) × (count ≡ 0 → result ≡ 255) }
 {
-    if 0 < count { count - 1 } else { 255 }
+    count.wrapping_sub(1)
 }
 
-// Fills an area with the pattern from a place on, again and again.
-pub fn fill_area(content: &[u8], from: usize, area: &mut [u8]) {
-    let mut i = 0;
-    while i < area.len() {
-        area[i] = pattern_at(content, from, i);
-        i += 1;
-    }
-}
+// What an area is filled with, again and again: zeros if there is none.
+#[derive(Clone, Copy)]
+pub struct Pattern<'a>(&'a [u8]);
 
-// Byte i of an area filled with the pattern, 0 if there is none.
-pub fn pattern_at(content: &[u8], from: usize, i: usize) -> u8 {
-    if content.len() <= from {
-        return 0;
+impl<'a> Pattern<'a> {
+    // Byte i of an area that is filled with the pattern.
+    pub fn at(&self, i: usize) -> u8
+        ensures { result ≡ pattern_byte self.now.0.now i }
+    {
+        if self.0.is_empty() {
+            return 0;
+        }
+        self.0[i % self.0.len()]
     }
-    byte_at(content, after(content, from, i % (content.len() - from)))
+
+    // Fills an area.
+    pub fn fill(&self, area: &mut [u8])
+        ensures { IsFilled self.now.0.now area.new }
+    {
+        for (i, byte) in area.iter_mut().enumerate() {
+            *byte = self.at(i);
+        }
+    }
 }

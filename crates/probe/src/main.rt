@@ -1,58 +1,34 @@
 // A test tool: any timetable, record, request and area through the library's C interface, and everything that comes back printed. Its protocol is docs/PROBE.md.
 #![tactic(auto)]
 
-ghost use Rattle.std.specs.Prelude.{length, ◌≡◌, ◌≤◌};
-ghost use Rattle.frames.specs.Coded.{LINE_ROOM};
+ghost use Rattle.std.specs.Prelude.{◌≡◌};
 ghost use Rattle.probe.specs.Probes.{Probes};
 
-use frames::{HEADER, stream};
-use parts::printing::print_byte;
+use frames::LINE_ROOM;
+use frames::output::Output;
+use frames::serving::serve;
+use frames::stream::Input;
+use probing::Prober;
 
 mod archiving; // archiving.rt: the kinds of probe that have no image
-mod probing; // probing.rt: the kinds of probe, and those that have an image
+mod kinds; // kinds.rt: what a probe asks for
+mod probing; // probing.rt: what answers probes, and the kinds that have an image
 
 fn main(rt: HostRuntime) {
     let mut input = io::large_buffer();
     let mut out = io::large_buffer();
     let mut image = io::large_buffer();
     let mut area = io::large_buffer();
-    run(&rt, &mut input, &mut out, &mut image, &mut area);
+    run(
+        &mut Prober::new(&mut image, &mut area),
+        &mut Input::new(rt.stdin(), &mut input, 0, 0),
+        &mut Output::new(rt.stdout(), &mut out, 0),
+    );
 }
 
-// Answers probes until the input is over, and tells how much output still waits: nothing. A proved loop has to end, so it counts the frames down, from a number that no run uses up.
-fn run(
-    rt: &HostRuntime,
-    input: &mut [u8],
-    out: &mut [u8],
-    image: &mut [u8],
-    area: &mut [u8],
-) -> usize
-    requires { LINE_ROOM ≤ length out.old }
-    ensures { (result ≡ 0) × Probes input.old out.old input.new out.new }
+// Answers probes until the input is over, and leaves no output waiting. A proved loop has to end, so it counts the frames, up to a number that no run reaches.
+fn run(prober: &mut Prober, input: &mut Input, out: &mut Output<LINE_ROOM>)
+    ensures { (out.new.put ≡ 0) × Probes input.old out.old input.new out.new }
 {
-    let mut p = stream::next_frame(rt, 0, 0, 0, input, out);
-    let mut left = u64::MAX;
-    while left > 0 && p.open {
-        left -= 1;
-        let content = p.from + HEADER;
-        let end = p.end;
-        let put = answered(rt, &input[content..end], p.put, out, image, area);
-        p = stream::next_frame(rt, end, p.to, put, input, out);
-    }
-    stream::flush(rt, out, p.put)
-}
-
-// A probe is answered, and its line put into the output.
-fn answered(
-    rt: &HostRuntime,
-    content: &[u8],
-    put: usize,
-    out: &mut [u8],
-    image: &mut [u8],
-    area: &mut [u8],
-) -> usize
-    ensures { result ≤ length out.old }
-{
-    let told = probing::line(rt, content, out, put, image, area);
-    print_byte(rt, out, told, b'\n')
+    serve(prober, input, out, u64::MAX);
 }

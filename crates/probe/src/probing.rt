@@ -1,152 +1,108 @@
-// The kinds of probe: each calls its entry point of the library and prints what came back. Those that have no image are in archiving.rt.
-ghost use Rattle.std.specs.Prelude.{length, ◌≤◌};
-
+// What answers probes, and the kinds of probe that have an image: each calls its entry point of the library and prints what came back. The others are in archiving.rt.
 use crate::archiving;
-use parts::printing::{print_answer, print_area, print_image, print_number, print_text, print_two};
-use parts::reading::{after, byte_at, fill_area, length_at, number_at, unpack};
+use crate::kinds::Kind;
+use frames::LINE_ROOM;
+use frames::output::Output;
+use frames::serving::Answerer;
+use parts::printing::{Packed, Touched};
+use parts::reading::Reader;
+use std::fmt::{self, Write as _};
+use std::marker::Model;
 
-// Where the image's bytes stand in a probe that has one: behind its kind and their number.
-const IMAGE_AT: usize = 3;
+// The buffers in which probes put their image and their area. Nothing in them is left from one probe to the next.
+#[derive(Drop)]
+pub struct Prober<'a> {
+    image: &'a mut [u8],
+    area: &'a mut [u8],
+}
 
-// The line of a probe, without its end, is put into the output.
-pub fn line(
-    rt: &HostRuntime,
-    content: &[u8],
-    out: &mut [u8],
-    put: usize,
-    image: &mut [u8],
-    area: &mut [u8],
-) -> usize
-    ensures { result ≤ length out.old }
-{
-    let kind = byte_at(content, 0);
-    match kind {
-        5 => archiving::answer(rt, content, out, put, area),
-        6 => archiving::request(rt, content, out, put, area),
-        7 => archiving::field(rt, content, out, put),
-        _ => on_image(rt, content, kind, out, put, image, area),
+impl<'a> Model for Prober<'a> {
+    ghost Value = { Unit {0} };
+
+    ghost view = { λ p. tt };
+}
+
+impl<'a> Answerer for Prober<'a> {
+    ghost use Rattle.std.specs.Prelude.{◌-◌, ◌^◌};
+    ghost use Rattle.probe.specs.Probes.{Printed, Told};
+
+    ghost gives = { Told };
+
+    ghost puts = { Printed };
+
+    ghost left = { λ p. 2 ^ 64 - 1 };
+
+    // A probe is answered by its line. (Writing to the output does not fail.)
+    fn answer(&mut self, content: &[u8], out: &mut Output<LINE_ROOM>) {
+        let _written = self.line(Reader::new(content), out);
     }
 }
 
-// The line of a probe that has an image.
-fn on_image(
-    rt: &HostRuntime,
-    content: &[u8],
-    kind: u8,
-    out: &mut [u8],
-    put: usize,
-    image: &mut [u8],
-    area: &mut [u8],
-) -> usize
-    ensures { result ≤ length out.old }
-{
-    let size = length_at(content, 1, image.len());
-    let at = unpack(content, IMAGE_AT, &mut image[0..size]);
-    match kind {
-        1 => change(rt, content, at, out, put, &mut image[0..size], area),
-        2 => owner(rt, content, at, out, put, &image[0..size]),
-        3 => standing(rt, content, at, out, put, &image[0..size]),
-        4 => empty(rt, out, put, &mut image[0..size]),
-        _ => print_text(rt, out, put, b"bad probe"),
+impl<'a> Prober<'a> {
+    // Probes are put into these buffers.
+    pub fn new(image: &'a mut [u8], area: &'a mut [u8]) -> Prober<'a> {
+        Prober { image, area }
+    }
+
+    // The line of a probe.
+    fn line(&mut self, mut probe: Reader, out: &mut Output<LINE_ROOM>) -> fmt::Result {
+        match Kind::try_from(probe.byte()) {
+            Ok(Kind::Change) => change(probe, self.image, self.area, out),
+            Ok(Kind::Owner) => owner(probe, self.image, out),
+            Ok(Kind::Standing) => standing(probe, self.image, out),
+            Ok(Kind::Empty) => empty(probe, self.image, out),
+            Ok(Kind::Answer) => archiving::answer(probe, self.area, out),
+            Ok(Kind::Request) => archiving::request(probe, self.area, out),
+            Ok(Kind::Field) => archiving::field(probe, out),
+            Err(_) => writeln!(out, "bad probe"),
+        }
     }
 }
 
 // A request on the image, with an area of the length and pattern that follow it.
 fn change(
-    rt: &HostRuntime,
-    content: &[u8],
-    at: usize,
-    out: &mut [u8],
-    put: usize,
+    mut probe: Reader,
     image: &mut [u8],
     area: &mut [u8],
-) -> usize
-    ensures { result ≤ length out.old }
-{
-    let from = after(content, at, 2);
-    let end = from + length_at(content, at, content.len() - from);
-    let size = length_at(content, end, area.len());
-    fill_area(content, after(content, end, 2), &mut area[0..size]);
-    changed(rt, content, from, end, out, put, image, &mut area[0..size])
-}
-
-// The request between two places of the content, on an area that is filled with the pattern, which stands two bytes behind the request.
-fn changed(
-    rt: &HostRuntime,
-    content: &[u8],
-    from: usize,
-    end: usize,
-    out: &mut [u8],
-    put: usize,
-    image: &mut [u8],
-    area: &mut [u8],
-) -> usize
-    requires { (from ≤ end) × (end ≤ length content.now) }
-    ensures { result ≤ length out.old }
-{
+    out: &mut Output<LINE_ROOM>,
+) -> fmt::Result {
+    let image = probe.image(image);
+    let request = probe.record();
+    let (area, pattern) = probe.area(area);
     let mut place = 0;
     let mut tries = 0;
     let mut written = 0;
-    let number = board::tarnflaw_change(
-        image,
-        &content[from..end],
-        area,
-        &mut place,
-        &mut tries,
-        &mut written,
-    );
-    let a = print_answer(rt, out, put, b"change", number, place);
-    let b = print_two(rt, out, a, tries as u64, written as u64);
-    let c = print_image(rt, out, b, image);
-    print_area(rt, out, c, area, content, after(content, end, 2))
+    let number = board::tarnflaw_change(image, request, area, &mut place, &mut tries, &mut written);
+    let image = Packed(image);
+    write!(out, "change {number} {place} {tries} {written} {image} ")?;
+    writeln!(out, "{}", Touched { area, pattern })
 }
 
 // The owner query on the image.
-fn owner(
-    rt: &HostRuntime,
-    content: &[u8],
-    from: usize,
-    out: &mut [u8],
-    put: usize,
-    image: &[u8],
-) -> usize
-    ensures { result ≤ length out.old }
-{
-    let slot = number_at(content, from, 8);
+fn owner(mut probe: Reader, image: &mut [u8], out: &mut Output<LINE_ROOM>) -> fmt::Result {
+    let image = probe.image(image);
+    let slot = probe.number();
     let mut place = 0;
     let mut owner = 0;
     let number = board::tarnflaw_owner(image, slot, &mut place, &mut owner);
-    let at = print_answer(rt, out, put, b"owner", number, place);
-    print_number(rt, out, at, owner as u64)
+    writeln!(out, "owner {number} {place} {owner}")
 }
 
 // The standing query on the image.
-fn standing(
-    rt: &HostRuntime,
-    content: &[u8],
-    from: usize,
-    out: &mut [u8],
-    put: usize,
-    image: &[u8],
-) -> usize
-    ensures { result ≤ length out.old }
-{
-    let id = byte_at(content, from);
-    let slot = number_at(content, after(content, from, 1), 8);
+fn standing(mut probe: Reader, image: &mut [u8], out: &mut Output<LINE_ROOM>) -> fmt::Result {
+    let image = probe.image(image);
+    let id = probe.byte();
+    let slot = probe.number();
     let mut place = 0;
     let mut shortfall = 0;
     let mut slices = 0;
     let number = board::tarnflaw_standing(image, id, slot, &mut place, &mut shortfall, &mut slices);
-    let at = print_answer(rt, out, put, b"standing", number, place);
-    print_two(rt, out, at, shortfall as u64, slices)
+    writeln!(out, "standing {number} {place} {shortfall} {slices}")
 }
 
 // The image of the empty timetable.
-fn empty(rt: &HostRuntime, out: &mut [u8], put: usize, image: &mut [u8]) -> usize
-    ensures { result ≤ length out.old }
-{
+fn empty(mut probe: Reader, image: &mut [u8], out: &mut Output<LINE_ROOM>) -> fmt::Result {
+    let image = probe.image(image);
     let number = board::tarnflaw_empty(image);
-    let a = print_text(rt, out, put, b"empty");
-    let b = print_number(rt, out, a, number as u64);
-    print_image(rt, out, b, image)
+    writeln!(out, "empty {number} {}", Packed(image))
 }
