@@ -8,17 +8,17 @@ use mathlib.Core.Logic.{◌≢◌, inl, inr}
 use mathlib.Core.Path.{◌≡◌, refl, subst}
 use native.Mathlib.Omega.{arith}
 use Prim.Native.Nat.{ℕ, zero, suc, ◌+◌, ◌≤◌, ◌<◌}
-use Rattle.archive.specs.AnswerRead.{are_owners, field_at, floor_at, length_field, length_stands, no_schedule, offset_field, offset_stands, owners_below, owners_field, owners_stand, read_end, read_fields, read_from, refused_answer, refused_at, told_length, whole_answer, with_field}
+use Rattle.std.specs.Prelude.{Ok, Err, Some, None}
+use Rattle.std.specs.Result.{IfErr}
+use Rattle.std.proofs.lemmas.Result.{IfErr-at_err}
+use Rattle.archive.specs.AnswerRead.{are_owners, field_at, floor_at, length_field, length_stands, no_schedule, offset_field, offset_stands, owners_below, owners_field, owners_stand, read_end, read_fields, read_from, refused_at, step, told_length, with_field, ReadAnswer, ReadField}
 pub use Rattle.archive.specs.AnswerReads.{AnswerRead, FieldRead, WrongOwner, bad_field}
 use Rattle.archive.specs.declared.AnswerField.{AnswerField}
-use Rattle.archive.specs.declared.AnswerField.TheVariants.{Length, Owners, Offset, End, Refused}
-use Rattle.archive.specs.declared.AnswerStep.{AnswerStep}
-use Rattle.archive.specs.declared.ReadAnswer.{ReadAnswer}
+use Rattle.archive.specs.declared.AnswerField.TheVariants.{Length, Owners, Offset}
 use Rattle.archive.specs.declared.Schedule.{Schedule}
 use Rattle.numbers.specs.declared.Refusal.{Refusal}
 use Rattle.numbers.specs.Numbers.{BAD_FIELD, refusal}
 use Rattle.records.proofs.ReadSteps.{field_inside}
-use Rattle.records.specs.declared.Reading.TheVariants.{Refused as Unread}
 use Rattle.records.specs.Request.{content_at, is_field}
 use Rattle.slots.proofs.Below.{and_both, every_all, every_at, every_fails, every_not}
 use Rattle.slots.specs.Limits.{IDS, LONGEST}
@@ -30,7 +30,7 @@ module _ (s : List ℕ) where
   length_step = by (is_field s 0 0x10 1) (leb (told_length s) LONGEST) refl refl
     where
       by : (a b : Bool) → is_field s 0 0x10 1 ≡ a → leb (told_length s) LONGEST ≡ b
-          → FieldRead s 0 (cond (a && b) (record { field = Length (told_length s); next = 4 }) (bad_field 0))
+          → FieldRead s 0 (cond (a && b) (step (Length (told_length s)) 4) (bad_field 0))
       by true true p q = FieldRead.size p (leb-true _ _ q)
       by true false p q = FieldRead.no_length (inr (leb-false _ _ q))
       by false b p q = FieldRead.no_length (inl p)
@@ -41,7 +41,7 @@ module _ (s : List ℕ) where
   owners_step = by (leb (told_length s) LONGEST) (is_field s 4 0x11 (told_length s)) (are_owners s (told_length s)) refl refl refl
     where
       by : (a b c : Bool) → leb (told_length s) LONGEST ≡ a → is_field s 4 0x11 (told_length s) ≡ b → are_owners s (told_length s) ≡ c
-          → FieldRead s 4 (cond (a && b && c) (record { field = Owners (told_length s); next = 7 + told_length s }) (bad_field 4))
+          → FieldRead s 4 (cond (a && b && c) (step (Owners (told_length s)) (7 + told_length s)) (bad_field 4))
       by true true true p q r = FieldRead.owners (leb-true _ _ p) q (λ k h. ltb-true _ _ (every_at (λ i. ltb (content_at s 4 i) IDS) _ r k h))
       by true true false p q r =
           let f = every_fails (λ i. ltb (content_at s 4 i) IDS) _ r in
@@ -55,7 +55,7 @@ module _ (s : List ℕ) where
   offset_step at m n h = by (is_field s at 0x12 2) (ltb (content_at s at 0) IDS) (leb (floor_at s at) (content_at s at 0)) refl refl refl
     where
       by : (a b c : Bool) → is_field s at 0x12 2 ≡ a → ltb (content_at s at 0) IDS ≡ b → leb (floor_at s at) (content_at s at 0) ≡ c
-          → FieldRead s at (cond (a && b && c) (record { field = Offset (content_at s at 0) (content_at s at 1); next = at + 5 }) (bad_field at))
+          → FieldRead s at (cond (a && b && c) (step (Offset (content_at s at 0) (content_at s at 1)) (at + 5)) (bad_field at))
       by true true true p q r = FieldRead.offset m n p (ltb-true _ _ q) (leb-true _ _ r)
       by true true false p q r = FieldRead.no_offset_field m n h (inr (inr (leb-false _ _ r)))
       by true false c p q r = FieldRead.no_offset_field m n h (inr (inl (ltb-false _ _ q)))
@@ -81,14 +81,14 @@ module _ (s : List ℕ) where
   field_read at = by (eqb at 0) (eqb at 4) (leb (length s) at) refl refl refl
     where
       by : (a b c : Bool) → eqb at 0 ≡ a → eqb at 4 ≡ b → leb (length s) at ≡ c
-          → FieldRead s at (cond a (length_field s) (cond b (owners_field s) (cond c (record { field = End; next = at }) (offset_field s at))))
+          → FieldRead s at (cond a (length_field s) (cond b (owners_field s) (cond c (Ok None) (offset_field s at))))
       by true b c p q r = rw (eqb-true at 0 p) length_step
       by false true c p q r = rw (eqb-true at 4 q) owners_step
       by false false true p q r = FieldRead.end (eqb-false at 0 p) (eqb-false at 4 q) (leb-true _ _ r)
       by false false false p q r = offset_step at (eqb-false at 0 p) (eqb-false at 4 q) (leb-false _ _ r)
 
   -- What stands at a place is what the definition gives.
-  pub field_is : {at : ℕ} {x : AnswerStep} → FieldRead s at x → field_at s at ≡ x
+  pub field_is : {at : ℕ} {x : ReadField} → FieldRead s at x → field_at s at ≡ x
   unfolding field_at length_field owners_field offset_field refused_at are_owners
   field_is (FieldRead.size p q) = rw (p, le-leb _ _ q)
   field_is (FieldRead.no_length (inl p)) = rw p
@@ -109,13 +109,13 @@ module _ (s : List ℕ) where
   field_is (FieldRead.end {at = at} m n h) = rw (ne_eqb at 0 m, ne_eqb at 4 n, le-leb (length s) at h)
 
   -- How reading goes on from a place: behind a field, which ends ahead and inside the record; or not at all, since nothing more stands there or it is refused.
-  pub data Turn (at : ℕ) : AnswerStep → Type 0 where
-    goes : {f : AnswerField} {next : ℕ} → at < next → next ≤ length s → Turn at (record { field = f; next = next })
-    ends : Turn at (record { field = End; next = at })
-    stops : {r : Refusal} → Turn at (record { field = Refused r; next = at })
+  pub data Turn (at : ℕ) : ReadField → Type 0 where
+    goes : {f : AnswerField} {next : ℕ} → at < next → next ≤ length s → Turn at (step f next)
+    ends : Turn at (Ok None)
+    stops : {r : Refusal} → Turn at (Err r)
 
   -- It goes on in one of these ways.
-  pub turn : {at : ℕ} {x : AnswerStep} → FieldRead s at x → Turn at x
+  pub turn : {at : ℕ} {x : ReadField} → FieldRead s at x → Turn at x
   turn (FieldRead.size p q) =
       let i = field_inside s 0 0x10 1 p in
       Turn.goes {next = 4} (omega arith) (omega arith)
@@ -131,57 +131,45 @@ module _ (s : List ℕ) where
   turn (FieldRead.end m n h) = Turn.ends
 
   -- A field that goes on ends inside the record.
-  turn_inside : {at : ℕ} (x : AnswerStep) → Turn at x → at < x.next → x.next ≤ length s
-  turn_inside x (Turn.goes p q) l = q
-  turn_inside x Turn.ends l = absurd (omega arith)
-  turn_inside x Turn.stops l = absurd (omega arith)
+  turn_inside : {at next : ℕ} {f : AnswerField} → Turn at (step f next) → next ≤ length s
+  turn_inside (Turn.goes p q) = q
 
   -- Where nothing more stands the record is over, and no required field is due.
-  pub end_read : {at : ℕ} (x : AnswerStep) → FieldRead s at x → x.field ≡ End → (at ≢ 0) × (at ≢ 4) × (length s ≤ at)
-  end_read x (FieldRead.end m n h) e = (m, n, h)
-  end_read x (FieldRead.size p q) e = absurd (let k : ◌≡◌ {A = ℕ} 0 1 = cc in omega arith)
-  end_read x (FieldRead.no_length w) e = absurd (let k : ◌≡◌ {A = ℕ} 0 1 = cc in omega arith)
-  end_read x (FieldRead.owners p q r) e = absurd (let k : ◌≡◌ {A = ℕ} 0 1 = cc in omega arith)
-  end_read x (FieldRead.no_owners w) e = absurd (let k : ◌≡◌ {A = ℕ} 0 1 = cc in omega arith)
-  end_read x (FieldRead.offset m n p q r) e = absurd (let k : ◌≡◌ {A = ℕ} 0 1 = cc in omega arith)
-  end_read x (FieldRead.no_offset_field m n h w) e = absurd (let k : ◌≡◌ {A = ℕ} 0 1 = cc in omega arith)
+  pub end_read : {at : ℕ} → FieldRead s at (Ok None) → (at ≢ 0) × (at ≢ 4) × (length s ≤ at)
+  end_read (FieldRead.end m n h) = (m, n, h)
 
   -- A field that is refused is refused 3, at its place.
-  refused_read : {at : ℕ} (x : AnswerStep) → FieldRead s at x → (r : Refusal) → x.field ≡ Refused r → (r.number ≡ BAD_FIELD) × (r.place ≡ at)
-  refused_read x (FieldRead.size p q) r e = absurd (let k : ◌≡◌ {A = ℕ} 0 1 = cc in omega arith)
-  refused_read x (FieldRead.owners p q w) r e = absurd (let k : ◌≡◌ {A = ℕ} 0 1 = cc in omega arith)
-  refused_read x (FieldRead.offset m n p q w) r e = absurd (let k : ◌≡◌ {A = ℕ} 0 1 = cc in omega arith)
-  refused_read x (FieldRead.end m n h) r e = absurd (let k : ◌≡◌ {A = ℕ} 0 1 = cc in omega arith)
-  refused_read x (FieldRead.no_length w) r e = let k : ◌≡◌ {A = Refusal} (record { number = BAD_FIELD; place = 0 }) r = cc in rw (← k) (refl, refl)
-  refused_read x (FieldRead.no_owners w) r e = let k : ◌≡◌ {A = Refusal} (record { number = BAD_FIELD; place = 4 }) r = cc in rw (← k) (refl, refl)
-  refused_read x (FieldRead.no_offset_field {at = at} m n h w) r e = let k : ◌≡◌ {A = Refusal} (record { number = BAD_FIELD; place = at }) r = cc in rw (← k) (refl, refl)
+  refused_read : {at : ℕ} {r : Refusal} → FieldRead s at (Err r) → (r.number ≡ BAD_FIELD) × (r.place ≡ at)
+  refused_read (FieldRead.no_length w) = (refl, refl)
+  refused_read (FieldRead.no_owners w) = (refl, refl)
+  refused_read (FieldRead.no_offset_field m n h w) = (refl, refl)
 
   -- What the definition reads from a place on is read so, if it may read as many fields as the record has bytes from there on.
   fields_read : (most at : ℕ) (x : Schedule) → length s ≤ at + most → AnswerRead s at x (read_fields most s at x)
   unfolding read_fields read_end
   fields_read zero at x h = by (field_at s at) (field_read at) (turn (field_read at))
     where
-      by : (y : AnswerStep) → FieldRead s at y → Turn at y → AnswerRead s at x (read_end x y.field)
+      by : (y : ReadField) → FieldRead s at y → Turn at y → AnswerRead s at x (read_end x y)
       by y d (Turn.goes p q) = absurd (omega arith)
       by y d Turn.ends = AnswerRead.whole d
       by y d Turn.stops = AnswerRead.stop d
-  fields_read (suc most) at x h = by (field_at s at) (field_read at) (turn (field_read at)) (fields_read most)
+  fields_read (suc most) at x h = by (field_at s at) refl (field_read at) (turn (field_read at)) (fields_read most)
     where
-      by : (y : AnswerStep) → FieldRead s at y → Turn at y → ((k : ℕ) (z : Schedule) → length s ≤ k + most → AnswerRead s k z (read_fields most s k z))
-          → AnswerRead s at x (cond (ltb at y.next) (read_fields most s y.next (with_field s x y.field)) (read_end x y.field))
-      by y d (Turn.goes {next = next} p q) rest = rw (lt-ltb at next p) (AnswerRead.more d p (rest _ _ (omega arith)))
-      by y d Turn.ends rest = rw (le-ltb at at (omega arith)) (AnswerRead.whole d)
-      by y d Turn.stops rest = rw (le-ltb at at (omega arith)) (AnswerRead.stop d)
+      by : (y : ReadField) → field_at s at ≡ y → FieldRead s at y → Turn at y
+          → ((k : ℕ) (z : Schedule) → length s ≤ k + most → AnswerRead s k z (read_fields most s k z)) → AnswerRead s at x (read_fields (suc most) s at x)
+      by y e d (Turn.goes {next = next} p q) rest = rw (e, read_fields) (AnswerRead.more d p (rest _ _ (omega arith)))
+      by y e d Turn.ends rest = rw (e, read_fields) (AnswerRead.whole d)
+      by y e d Turn.stops rest = rw (e, read_fields) (AnswerRead.stop d)
 
   -- What is read so is what the definition reads.
   fields_is : {at : ℕ} {x : Schedule} {y : ReadAnswer} → AnswerRead s at x y → (most : ℕ) → length s ≤ at + most → read_fields most s at x ≡ y
   unfolding read_fields read_end
-  fields_is (AnswerRead.more d p rest) zero h = absurd (omega (arith, turn_inside _ (turn d) p))
-  fields_is (AnswerRead.more d p rest) (suc most) h = rw (field_is d, lt-ltb _ _ p) (fields_is rest most (omega arith))
+  fields_is (AnswerRead.more d p rest) zero h = absurd (omega (arith, turn_inside (turn d)))
+  fields_is (AnswerRead.more d p rest) (suc most) h = rw (field_is d, read_fields) (fields_is rest most (omega arith))
   fields_is (AnswerRead.whole d) zero h = rw (field_is d)
-  fields_is (AnswerRead.whole {at = at} d) (suc most) h = rw (field_is d, le-ltb at at (omega arith))
+  fields_is (AnswerRead.whole d) (suc most) h = rw (field_is d, read_fields)
   fields_is (AnswerRead.stop d) zero h = rw (field_is d)
-  fields_is (AnswerRead.stop {at = at} d) (suc most) h = rw (field_is d, le-ltb at at (omega arith))
+  fields_is (AnswerRead.stop d) (suc most) h = rw (field_is d, read_fields)
 
   -- Reading from a place on gives what is read so,
   pub answer_read : (at : ℕ) → AnswerRead s at no_schedule (read_from s at)
@@ -199,11 +187,11 @@ module _ (s : List ℕ) where
         → AnswerRead s 4 (record { length = told_length s; owners = x.owners; offsets = x.offsets }) y → AnswerRead s 0 x y
     unfolding length_field with_field
     length_goes y e d =
-        let k : length_field s ≡ record { field = Length (told_length s); next = 4 } = rw e in
+        let k : length_field s ≡ step (Length (told_length s)) 4 = rw e in
         AnswerRead.more (subst (FieldRead s 0) k length_step) (omega arith) d
 
     -- another is refused.
-    pub length_stops : length_stands s ≡ false → AnswerRead s 0 x (refused_answer (refusal BAD_FIELD 0))
+    pub length_stops : length_stands s ≡ false → AnswerRead s 0 x (Err (refusal BAD_FIELD 0))
     unfolding length_field refused_at
     length_stops e = AnswerRead.stop (let k : length_field s ≡ bad_field 0 = rw e in subst (FieldRead s 0) k length_step)
 
@@ -212,12 +200,12 @@ module _ (s : List ℕ) where
         → AnswerRead s (7 + told_length s) (record { length = x.length; owners = owners_below s LONGEST; offsets = x.offsets }) y → AnswerRead s 4 x y
     unfolding owners_field with_field
     owners_goes y e d =
-        let k : owners_field s ≡ record { field = Owners (told_length s); next = 7 + told_length s } = rw e in
+        let k : owners_field s ≡ step (Owners (told_length s)) (7 + told_length s) = rw e in
         AnswerRead.more (subst (FieldRead s 4) k owners_step) (omega arith) d
 
     -- others are refused.
     pub owners_stops : owners_stand s ≡ false
-        → AnswerRead s 4 x (refused_answer (refusal BAD_FIELD 4))
+        → AnswerRead s 4 x (Err (refusal BAD_FIELD 4))
     unfolding owners_field refused_at
     owners_stops e = AnswerRead.stop (let k : owners_field s ≡ bad_field 4 = rw e in subst (FieldRead s 4) k owners_step)
 
@@ -225,16 +213,16 @@ module _ (s : List ℕ) where
       -- Helper of offset_goes: what is read behind this id and this offset.
       abbrev Behind : ReadAnswer → ℕ → ℕ → Type 0
       Behind y id offset =
-          AnswerRead s (at + 5) (record { length = x.length; owners = x.owners; offsets = set x.offsets id (record { listed = true; offset = offset }) }) y
+          AnswerRead s (at + 5) (record { length = x.length; owners = x.owners; offsets = set x.offsets id (Some offset) }) y
 
       -- An offset that stands is read, and then the rest;
       pub offset_goes : (y : ReadAnswer) (id offset : ℕ) → id ≡ content_at s at 0 → offset ≡ content_at s at 1
           → offset_stands s at ≡ true
-          → AnswerRead s (at + 5) (record { length = x.length; owners = x.owners; offsets = set x.offsets id (record { listed = true; offset = offset }) }) y
+          → AnswerRead s (at + 5) (record { length = x.length; owners = x.owners; offsets = set x.offsets id (Some offset) }) y
           → AnswerRead s at x y
       unfolding offset_field with_field
       offset_goes y id offset p q e d =
-          let k : offset_field s at ≡ record { field = Offset (content_at s at 0) (content_at s at 1); next = at + 5 } = rw e in
+          let k : offset_field s at ≡ step (Offset (content_at s at 0) (content_at s at 1)) (at + 5) = rw e in
           AnswerRead.more
           (subst (FieldRead s at) k (offset_step at m n (omega (arith, (offset_inside at e).0))))
           (omega arith)
@@ -242,23 +230,20 @@ module _ (s : List ℕ) where
 
       -- another is refused;
       pub offset_stops : offset_stands s at ≡ false
-          → at < length s → AnswerRead s at x (refused_answer (refusal BAD_FIELD at))
+          → at < length s → AnswerRead s at x (Err (refusal BAD_FIELD at))
       unfolding offset_field refused_at
       offset_stops e h = AnswerRead.stop (let k : offset_field s at ≡ bad_field at = rw e in subst (FieldRead s at) k (offset_step at m n h))
 
       -- and at the record's end all is read.
-      pub offset_ends : length s ≤ at → AnswerRead s at x (whole_answer x)
+      pub offset_ends : length s ≤ at → AnswerRead s at x (Ok x)
       offset_ends h = AnswerRead.whole (FieldRead.end m n h)
 
   -- An answer that is refused is refused 3, at a place in the record or at its end.
-  refused_inside : {at : ℕ} {x : Schedule} {y : ReadAnswer} → AnswerRead s at x y → at ≤ length s → (r : Refusal) → y.reading ≡ Unread r
-      → (r.number ≡ BAD_FIELD) × (r.place ≤ length s)
-  refused_inside (AnswerRead.more d p rest) h r e = refused_inside rest (turn_inside _ (turn d) p) r e
-  refused_inside (AnswerRead.whole d) h r e = absurd (let k : ◌≡◌ {A = ℕ} 0 1 = cc in omega arith)
-  refused_inside (AnswerRead.stop {r = t} d) h r e =
-      let k : t ≡ r = cc in
-      let w = refused_read _ d t refl in
-      rw (← k) (w.0, omega (arith, w.1))
+  refused_inside : {at : ℕ} {x : Schedule} {y : ReadAnswer} → AnswerRead s at x y → at ≤ length s
+      → IfErr y (λ r. (r.number ≡ BAD_FIELD) × (r.place ≤ length s))
+  refused_inside (AnswerRead.more d p rest) h = refused_inside rest (turn_inside (turn d))
+  refused_inside (AnswerRead.whole d) h = tt
+  refused_inside (AnswerRead.stop d) h = let w = refused_read d in (w.0, omega (arith, w.1))
 
-  pub answer_damaged : (r : Refusal) → (read_from s 0).reading ≡ Unread r → (r.number ≡ BAD_FIELD) × (r.place ≤ length s)
-  answer_damaged = refused_inside (answer_read 0) (omega arith)
+  pub answer_damaged : (r : Refusal) → read_from s 0 ≡ Err r → (r.number ≡ BAD_FIELD) × (r.place ≤ length s)
+  answer_damaged r e = IfErr-at_err (λ r. (r.number ≡ BAD_FIELD) × (r.place ≤ length s)) e (refused_inside (answer_read 0) (omega arith))

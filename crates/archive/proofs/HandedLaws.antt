@@ -1,29 +1,26 @@
 -- What is handed to the writer of requests is refused or whole, and what writing then returns and leaves in the area. Assumes nothing.
-use borrow.Author.Tests.{le-leb, leb-false, leb-true, lt-leb, ne_eqb}
+use borrow.Author.Tests.{le-leb, leb-false, leb-true, lt-leb}
 use lib.Dec.{leb}
 use lib.ListN.{length}
 use lib.Seq.{sets}
-use mathlib.Core.Bool.{Bool, true, false}
+use mathlib.Core.Bool.{Bool, true, false, false≢true, true≢false}
 use mathlib.Core.List.{List}
 use mathlib.Core.Path.{◌≡◌, refl, sym, ap, ◌∙◌}
 use native.Mathlib.Omega.{arith}
 use Prim.Native.Nat.{ℕ, ◌+◌, ◌*◌, ◌%◌, ◌≤◌, ◌<◌}
+use Rattle.std.specs.Prelude.{Ok, Err}
+use Rattle.std.specs.Result.{IsOk, is_ok}
+use Rattle.records.specs.declared.Ask.{Ask}
 use Rattle.archive.proofs.EntryAsks.{asks_bytes}
 use Rattle.archive.proofs.RequestStores.{request_length}
 use Rattle.archive.proofs.WriterLaws.{Stop, Taken, asks_of, entries_taken, taken_is}
-use Rattle.archive.specs.declared.Writing.{Writing}
 use Rattle.archive.specs.Put.{request_fields}
-use Rattle.archive.specs.RequestWrite.{LIMIT_PLACE, SLOT_PLACE, area_written, handed_request, take_entries, write_into, write_request}
+use Rattle.archive.specs.RequestWrite.{LIMIT_PLACE, SLOT_PLACE, area_written, checked, handed_request, take_entries, write_into, write_request}
 use Rattle.archive.specs.Writes.{EntriesRise}
 use Rattle.numbers.specs.declared.Refusal.{Refusal}
-use Rattle.numbers.specs.Numbers.{ACCEPTED, OUT_OF_RANGE, SMALL_AREA, refusal}
-use Rattle.records.proofs.NextStep.{listing_refused, listing_whole}
-use Rattle.records.specs.declared.Listing.{Listing}
-use Rattle.records.specs.declared.Reading.{Reading}
-use Rattle.records.specs.declared.Reading.TheVariants.{Whole, Refused}
-use Rattle.records.specs.declared.ReadRequest.{ReadRequest}
+use Rattle.numbers.specs.Numbers.{OUT_OF_RANGE, SMALL_AREA, refusal}
 use Rattle.records.specs.declared.Request.{Request}
-use Rattle.records.specs.Request.{no_asks, refused_request, with_listing}
+use Rattle.records.specs.Request.{no_asks, requested, with_listing, ReadRequest, Reading}
 use Rattle.records.specs.Written.{number_bytes, request_record}
 use Rattle.slots.specs.declared.CoreSlot.{CoreSlot}
 use Rattle.slots.specs.Limits.{LAST_SLOT, LONGEST}
@@ -40,27 +37,28 @@ module _ (slot : CoreSlot) (limit : ℕ) (listing : List ℕ) where
 
   -- What is handed over: the slot is refused, or T, or an entry; or it is whole.
   pub data Handed : ReadRequest → Type 0 where
-    no_slot : LAST_SLOT < slot.0 → Handed (refused_request (refusal OUT_OF_RANGE SLOT_PLACE))
-    no_limit : slot.0 ≤ LAST_SLOT → LONGEST < limit → Handed (refused_request (refusal OUT_OF_RANGE LIMIT_PLACE))
-    no_entry_lem : (n : ℕ) {r : Refusal} → InRange slot limit → EntriesRise listing n → Stop listing n (Refused r) → Handed (refused_request r)
-    whole : (n : ℕ) → InRange slot limit → EntriesRise listing n → length listing ≡ 3 * n → Handed (record { reading = Whole; request = request_of n })
+    no_slot : LAST_SLOT < slot.0 → Handed (Err (refusal OUT_OF_RANGE SLOT_PLACE))
+    no_limit : slot.0 ≤ LAST_SLOT → LONGEST < limit → Handed (Err (refusal OUT_OF_RANGE LIMIT_PLACE))
+    no_entry_lem : (n : ℕ) {r : Refusal} → InRange slot limit → EntriesRise listing n → Stop listing n (Err r) → Handed (Err r)
+    whole : (n : ℕ) → InRange slot limit → EntriesRise listing n → length listing ≡ 3 * n → Handed (Ok (request_of n))
 
   -- A listing that is taken is handed over so.
-  with_taken : InRange slot limit → (x : Listing) → Taken listing x → Handed (with_listing slot limit x)
-  with_taken i x t = at x.reading refl t.stop
+  with_taken : InRange slot limit → (x : Reading (List Ask)) → Taken listing x → Handed (with_listing slot limit x)
+  unfolding with_listing
+  with_taken i x t = at x t.stop
     where
-      at : (y : Reading) → x.reading ≡ y → Stop listing t.n y → Handed (with_listing slot limit x)
-      at y e (Stop.end l) = rw (listing_whole slot limit x e, t.asks) (Handed.whole t.n i t.rise l)
-      at y e (Stop.high h f) = rw (listing_refused slot limit x _ e) (Handed.no_entry_lem t.n i t.rise (Stop.high h f))
-      at y e (Stop.low h f) = rw (listing_refused slot limit x _ e) (Handed.no_entry_lem t.n i t.rise (Stop.low h f))
+      at : (y : Reading (List Ask)) → Stop listing t.n y → Handed (with_listing slot limit y)
+      at y (Stop.end l) = Handed.whole t.n i t.rise l
+      at y (Stop.high h f) = Handed.no_entry_lem t.n i t.rise (Stop.high h f)
+      at y (Stop.low h f) = Handed.no_entry_lem t.n i t.rise (Stop.low h f)
 
   -- A slot that is too high is refused,
-  pub high_slot : LAST_SLOT < slot.0 → handed_request slot limit listing ≡ refused_request (refusal OUT_OF_RANGE SLOT_PLACE)
+  pub high_slot : LAST_SLOT < slot.0 → handed_request slot limit listing ≡ Err (refusal OUT_OF_RANGE SLOT_PLACE)
   unfolding handed_request
   high_slot h = rw (lt-leb slot.0 LAST_SLOT h)
 
   -- then a T that is,
-  pub high_limit : slot.0 ≤ LAST_SLOT → LONGEST < limit → handed_request slot limit listing ≡ refused_request (refusal OUT_OF_RANGE LIMIT_PLACE)
+  pub high_limit : slot.0 ≤ LAST_SLOT → LONGEST < limit → handed_request slot limit listing ≡ Err (refusal OUT_OF_RANGE LIMIT_PLACE)
   unfolding handed_request
   high_limit h k = rw (le-leb slot.0 LAST_SLOT h, lt-leb limit LONGEST k)
 
@@ -69,14 +67,14 @@ module _ (slot : CoreSlot) (limit : ℕ) (listing : List ℕ) where
   unfolding handed_request
   handed_listing i = rw (le-leb slot.0 LAST_SLOT i.slot_range, le-leb limit LONGEST i.limit_range)
 
-  -- Its reading is the listing's.
-  pub handed_reading : InRange slot limit → (handed_request slot limit listing).reading ≡ (take_entries (length listing) listing 0 0 no_asks).reading
-  unfolding refused_request
-  handed_reading i = let x = take_entries (length listing) listing 0 0 no_asks in rw (handed_listing i) (at x x.reading refl)
+  -- It is read where the listing is, or else refused as that is.
+  pub handed_checked : InRange slot limit → checked (handed_request slot limit listing) ≡ checked (take_entries (length listing) listing 0 0 no_asks)
+  unfolding with_listing
+  handed_checked i = rw (handed_listing i) (at (take_entries (length listing) listing 0 0 no_asks))
     where
-      at : (x : Listing) (y : Reading) → x.reading ≡ y → (with_listing slot limit x).reading ≡ y
-      at x Whole e = ap (λ (z : ReadRequest). z.reading) (listing_whole slot limit x e)
-      at x (Refused r) e = ap (λ (z : ReadRequest). z.reading) (listing_refused slot limit x r e)
+      at : (x : Reading (List Ask)) → checked (with_listing slot limit x) ≡ checked x
+      at (Ok asks) = refl
+      at (Err r) = refl
 
   -- What is handed over is one of the four.
   pub handed_over : Handed (handed_request slot limit listing)
@@ -93,17 +91,16 @@ module _ (slot : CoreSlot) (limit : ℕ) (listing : List ℕ) where
           rw (handed_listing i) (with_taken i _ (entries_taken listing))
 
   -- A listing that stops at a refusal is refused so.
-  pub handed_refused : (n : ℕ) (r : Refusal) → InRange slot limit → EntriesRise listing n → Stop listing n (Refused r)
-      → handed_request slot limit listing ≡ refused_request r
-  handed_refused n r i e s =
-      handed_listing i ∙ listing_refused slot limit _ r (ap (λ (x : Listing). x.reading) (taken_is listing n (Refused r) e s))
+  pub handed_refused : (n : ℕ) (r : Refusal) → InRange slot limit → EntriesRise listing n → Stop listing n (Err r)
+      → handed_request slot limit listing ≡ Err r
+  unfolding with_listing
+  handed_refused n r i e s = handed_listing i ∙ ap (with_listing slot limit) (taken_is listing n (Err r) e s)
 
   -- A whole listing is handed over whole.
   pub handed_whole : (n : ℕ) → InRange slot limit → EntriesRise listing n → length listing ≡ 3 * n
-      → handed_request slot limit listing ≡ record { reading = Whole; request = request_of n }
-  handed_whole n i e l =
-      let t = taken_is listing n Whole e (Stop.end l) in
-      handed_listing i ∙ rw t (listing_whole slot limit (record { reading = Whole; asks = asks_of listing n }) refl)
+      → handed_request slot limit listing ≡ Ok (request_of n)
+  unfolding with_listing
+  handed_whole n i e l = handed_listing i ∙ ap (with_listing slot limit) (taken_is listing n (Ok (asks_of listing n)) e (Stop.end l))
 
   -- What is handed over whole has entries that rise to the listing's end.
   pub record HandedWhole : Type 0 where
@@ -112,34 +109,15 @@ module _ (slot : CoreSlot) (limit : ℕ) (listing : List ℕ) where
     pub rise : EntriesRise listing n
     pub end : length listing ≡ 3 * n
 
-  -- A whole reading was handed over whole.
-  pub whole_handed : (handed_request slot limit listing).reading ≡ Whole → HandedWhole
-  unfolding refused_request
+  -- What is not refused was handed over whole.
+  pub whole_handed : IsOk (handed_request slot limit listing) → HandedWhole
   whole_handed = at (handed_request slot limit listing) handed_over
     where
-      at : (x : ReadRequest) → Handed x → x.reading ≡ Whole → HandedWhole
-      at x (Handed.no_slot h) e = absurd (let k : ◌≡◌ {A = ℕ} 0 1 = cc in omega arith)
-      at x (Handed.no_limit h k) e = absurd (let k : ◌≡◌ {A = ℕ} 0 1 = cc in omega arith)
-      at x (Handed.no_entry_lem n i r s) e = absurd (let k : ◌≡◌ {A = ℕ} 0 1 = cc in omega arith)
+      at : (x : ReadRequest) → Handed x → IsOk x → HandedWhole
+      at x (Handed.no_slot h) e = absurd (false≢true e)
+      at x (Handed.no_limit h k) e = absurd (false≢true e)
+      at x (Handed.no_entry_lem n i r s) e = absurd (false≢true e)
       at x (Handed.whole n i r l) e = record { n = n; in_range = i; rise = r; end = l }
-
-  -- A refusal has number 4 or above.
-  pub refused_number : (r : Refusal) → (handed_request slot limit listing).reading ≡ Refused r → OUT_OF_RANGE ≤ r.number
-  unfolding refused_request
-  refused_number r = at (handed_request slot limit listing) handed_over
-    where
-      stop : (n : ℕ) (t : Refusal) → Stop listing n (Refused t) → OUT_OF_RANGE ≤ t.number
-      stop n t (Stop.high h f) = omega arith
-      stop n t (Stop.low h f) = omega arith
-
-      same : (t : Refusal) → Refused t ≡ Refused r → OUT_OF_RANGE ≤ t.number → OUT_OF_RANGE ≤ r.number
-      same t e h = let k : t ≡ r = cc in rw (← k) h
-
-      at : (x : ReadRequest) → Handed x → x.reading ≡ Refused r → OUT_OF_RANGE ≤ r.number
-      at x (Handed.no_slot h) e = same _ e (omega arith)
-      at x (Handed.no_limit h k) e = same _ e (omega arith)
-      at x (Handed.no_entry_lem n i t s) e = same _ e (stop n _ s)
-      at x (Handed.whole n i t l) e = absurd (let k : ◌≡◌ {A = ℕ} 0 1 = cc in omega arith)
 
   -- What is handed over whole is written field by field.
   pub request_bytes : (n : ℕ) → InRange slot limit → EntriesRise listing n → request_record (request_of n) ≡ request_fields slot limit listing n
@@ -148,47 +126,56 @@ module _ (slot : CoreSlot) (limit : ℕ) (listing : List ℕ) where
       let m : limit % 256 ≡ limit = omega (arith, i.limit_range) in
       rw (m, asks_bytes listing n r)
 
+-- What is checked without a refusal was read,
+pub checked_ok : {A : Type 0} (x : Reading A) {u : Unit {0}} → checked x ≡ Ok u → IsOk x
+checked_ok (Ok y) e = refl
+checked_ok (Err r) e = ap (λ (z : Reading (Unit {0})). is_ok z) e
+
+-- and what is refused there was refused so.
+pub checked_err : {A : Type 0} (x : Reading A) {r : Refusal} → checked x ≡ Err r → x ≡ Err r
+checked_err (Ok y) e = absurd (true≢false (ap (λ (z : Reading (Unit {0})). is_ok z) e))
+checked_err (Err t) {r} e = let k : t ≡ r = cc in ap Err k
+
 module _ (slot : CoreSlot) (limit : ℕ) (listing area : List ℕ) where
   -- What writing returns, and the area afterwards.
-  abbrev pub Gives : Writing → List ℕ → Type 0
+  abbrev pub Gives : Reading ℕ → List ℕ → Type 0
   Gives r out = (r ≡ write_request slot limit listing (length area)) × (out ≡ area_written slot limit listing area)
 
-  -- An area is as it was unless the request is accepted.
-  area_stays : (r : Writing) → r ≡ write_request slot limit listing (length area) → ACCEPTED < r.number → Gives r area
+  -- After a refusal an area is as it was.
+  area_stays : (r : Refusal) → write_request slot limit listing (length area) ≡ Err r → Gives (Err r) area
   unfolding area_written
-  area_stays r e h = (e, rw (ne_eqb (write_request slot limit listing (length area)).number ACCEPTED (λ z. omega (arith, ap (λ (x : Writing). x.number) e))))
+  area_stays r e = (sym e, rw e)
 
   -- A refusal is returned.
-  pub write_refused : (r : Refusal) → (handed_request slot limit listing).reading ≡ Refused r
-      → Gives (record { number = r.number; place = r.place; written = 0 }) area
+  pub write_refused : (r : Refusal) → handed_request slot limit listing ≡ Err r → Gives (Err r) area
   unfolding write_request write_into
-  write_refused r e = area_stays _ (rw (e, write_into)) (omega (arith, refused_number slot limit listing r e))
+  write_refused r e = area_stays r (rw (e, write_into))
 
   module _ (n : ℕ) (i : InRange slot limit) (e : EntriesRise listing n) (l : length listing ≡ 3 * n) where
     -- What is written,
-    bytes : request_record (handed_request slot limit listing).request ≡ request_fields slot limit listing n
-    bytes = ap (λ (x : ReadRequest). request_record x.request) (handed_whole slot limit listing n i e l) ∙ request_bytes slot limit listing n i e
+    bytes : request_record (request_of slot limit listing n) ≡ request_fields slot limit listing n
+    bytes = request_bytes slot limit listing n i e
 
-    -- how many bytes it is,
-    size : length (request_record (handed_request slot limit listing).request) ≡ 15 + 6 * n
+    -- and how many bytes it is.
+    size : length (request_record (request_of slot limit listing n)) ≡ 15 + 6 * n
     size = ap (λ (x : List ℕ). length x) bytes ∙ request_length slot limit listing n
 
-    -- and that it is whole.
-    reading : (handed_request slot limit listing).reading ≡ Whole
-    reading = ap (λ (x : ReadRequest). x.reading) (handed_whole slot limit listing n i e l)
-
     -- An area shorter than the record is refused.
-    pub write_small : length area < 15 + 6 * n → Gives (record { number = SMALL_AREA; place = 0; written = 0 }) area
+    pub write_small : length area < 15 + 6 * n → Gives (Err (refusal SMALL_AREA 0)) area
     unfolding write_request write_into
     write_small h =
-        area_stays _ (rw (reading, write_into, lt-leb (length (request_record (handed_request slot limit listing).request)) (length area) (omega (arith, size))))
-        (omega arith)
+        area_stays _
+        (rw (
+          handed_whole slot limit listing n i e l,
+          write_into,
+          lt-leb (length (request_record (request_of slot limit listing n))) (length area) (omega (arith, size)),
+        ))
 
     -- Otherwise the request is written.
-    pub write_whole : 15 + 6 * n ≤ length area
-        → Gives (record { number = ACCEPTED; place = 0; written = 15 + 6 * n }) (sets area 0 (request_fields slot limit listing n))
-    unfolding write_request write_into area_written
+    pub write_whole : 15 + 6 * n ≤ length area → Gives (Ok (15 + 6 * n)) (sets area 0 (request_fields slot limit listing n))
+    unfolding write_request write_into area_written requested
     write_whole h =
-        let r : write_request slot limit listing (length area) ≡ record { number = ACCEPTED; place = 0; written = 15 + 6 * n } =
-        rw (reading, write_into, le-leb (length (request_record (handed_request slot limit listing).request)) (length area) (omega (arith, size)), size)
-        in (sym r, rw (r, bytes))
+        let w = handed_whole slot limit listing n i e l in
+        let r : write_request slot limit listing (length area) ≡ Ok (15 + 6 * n) =
+        rw (w, write_into, le-leb (length (request_record (request_of slot limit listing n))) (length area) (omega (arith, size)), size)
+        in (sym r, rw (r, w, requested, bytes))

@@ -4,11 +4,11 @@ use mathlib.Core.List.{List}
 use mathlib.Core.Path.{◌≡◌, sym, ap₂, ◌∙◌}
 use Prim.Native.Nat.{ℕ}
 use denote.Ref.{Bor}
-use Rattle.archive.specs.AnswerRead.{field_at, told_owner, read_answer, read_from}
+use Rattle.std.specs.declared.option.Option.{Option}
+use Rattle.records.specs.Request.{Reading}
+use Rattle.archive.specs.AnswerRead.{field_at, field_of, place_after, told_owner, read_answer, read_from, ReadAnswer}
 use Rattle.archive.specs.declared.AnswerField.{AnswerField}
-use Rattle.archive.specs.declared.ReadAnswer.{ReadAnswer}
 use Rattle.archive.specs.declared.reader.AnswerReader.{AnswerReader}
-use Rattle.archive.specs.declared.Writing.{Writing}
 use Rattle.archive.specs.RequestWrite.{area_written, write_request}
 use Rattle.slots.specs.declared.CoreSlot.{CoreSlot}
 
@@ -21,9 +21,9 @@ pub new_unique : (s : Bor (List ℕ)) (r r' : AnswerReader) → (r.bytes ≡ s) 
 new_unique s r r' p q = ap₂ (λ (b : Bor (List ℕ)) (n : ℕ). record { bytes = b; at = n }) (p.0 ∙ sym q.0) (p.1 ∙ sym q.1)
 
 -- `next`: what it tells, and the reader afterwards.
-pub next_unique : (r : AnswerReader) (f f' : AnswerField) (x x' : AnswerReader)
-    → (f ≡ (field_at r.bytes.now r.at).field) × (x.bytes ≡ r.bytes) × (x.at ≡ (field_at r.bytes.now r.at).next)
-    → (f' ≡ (field_at r.bytes.now r.at).field) × (x'.bytes ≡ r.bytes) × (x'.at ≡ (field_at r.bytes.now r.at).next)
+pub next_unique : (r : AnswerReader) (f f' : Reading (Option AnswerField)) (x x' : AnswerReader)
+    → (f ≡ field_of (field_at r.bytes.now r.at)) × (x.bytes ≡ r.bytes) × (x.at ≡ place_after r.at (field_at r.bytes.now r.at))
+    → (f' ≡ field_of (field_at r.bytes.now r.at)) × (x'.bytes ≡ r.bytes) × (x'.at ≡ place_after r.at (field_at r.bytes.now r.at))
     → (f ≡ f') × (x ≡ x')
 next_unique r f f' x x' p q = (
   p.0 ∙ sym q.0,
@@ -39,7 +39,7 @@ pub rest_unique : (r : AnswerReader) (x x' : ReadAnswer) → x ≡ read_from r.b
 rest_unique r x x' p q = p ∙ sym q
 
 -- `write_request`: what it returns, and the area afterwards.
-pub write_request_unique : (slot : CoreSlot) (limit : ℕ) (listing area : List ℕ) (w w' : Writing) (out out' : List ℕ)
+pub write_request_unique : (slot : CoreSlot) (limit : ℕ) (listing area : List ℕ) (w w' : Reading ℕ) (out out' : List ℕ)
     → (w ≡ write_request slot limit listing (length area)) × (out ≡ area_written slot limit listing area)
     → (w' ≡ write_request slot limit listing (length area)) × (out' ≡ area_written slot limit listing area) → (w ≡ w') × (out ≡ out')
 write_request_unique slot limit listing area w w' out out' p q = (p.0 ∙ sym q.0, p.1 ∙ sym q.1)

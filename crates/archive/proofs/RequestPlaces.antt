@@ -3,14 +3,13 @@
 use lib.ListN.{drop, get_or, length, length-append}
 use lib.Seq.{ext_get_or, get_or-append-add, length-sets, sets}
 use mathlib.Core.List.{List, [], ◌∷◌, ◌++◌}
-use mathlib.Core.Path.{◌≡◌, refl, sym, ap, ◌∙◌, subst, subst₂}
+use mathlib.Core.Path.{◌≡◌, refl, sym, ◌∙◌, subst, subst₂}
 use native.Mathlib.Decide.{ℕ_discrete, dec_lt}
 use native.Mathlib.Omega.{arith}
 use Prim.Native.Nat.{ℕ, zero, suc, ◌+◌, ◌-◌, ◌*◌, ◌/◌, ◌≤◌, ◌<◌}
 use Rattle.archive.proofs.HandedLaws.{Gives, Handed, InRange, handed_over, handed_refused, high_limit, high_slot, write_refused, write_small, write_whole}
 use Rattle.archive.proofs.RequestStores.{fields_length, request_length, request_run}
 use Rattle.archive.proofs.WriterLaws.{Stop, floor_of}
-use Rattle.archive.specs.declared.Writing.{Writing}
 use Rattle.archive.specs.Put.{listing_fields, request_fields}
 use Rattle.archive.specs.RequestWrite.{area_written, bound_of, handed_request, id_of, k_of, write_request}
 use Rattle.archive.specs.Writes.{EntriesRise, RequestStands, RequestWritten}
@@ -19,8 +18,7 @@ use Rattle.records.proofs.FieldStands.{number_length}
 use Rattle.records.proofs.SetsLaws.{sets_front, sets_rest}
 use Rattle.records.specs.Answer.{field}
 use Rattle.records.specs.AnswerForm.{Stand}
-use Rattle.records.specs.declared.ReadRequest.{ReadRequest}
-use Rattle.records.specs.Request.{refused_request}
+use Rattle.records.specs.Request.{ReadRequest, Reading}
 use Rattle.records.specs.Written.{number_bytes}
 use Rattle.slots.specs.declared.CoreSlot.{CoreSlot}
 
@@ -99,20 +97,17 @@ module _ (slot : CoreSlot) (limit : ℕ) (listing : List ℕ) (n : ℕ) where
 
 module _ (slot : CoreSlot) (limit : ℕ) (listing area : List ℕ) where
   -- A case that gives what writing gives is the case of writing.
-  given : (r : Writing) (out : List ℕ) → Gives slot limit listing area r out → RequestWritten slot limit listing area r out
+  given : (r : Reading ℕ) (out : List ℕ) → Gives slot limit listing area r out → RequestWritten slot limit listing area r out
       → RequestWritten slot limit listing area (write_request slot limit listing (length area)) (area_written slot limit listing area)
   given r out g x = subst₂ (RequestWritten slot limit listing area) g.0 g.1 x
 
   -- Writing a request gives what its cases say.
   pub request_written : RequestWritten slot limit listing area (write_request slot limit listing (length area)) (area_written slot limit listing area)
-  unfolding refused_request floor_of
+  unfolding floor_of
   request_written = at (handed_request slot limit listing) refl (handed_over slot limit listing)
     where
       Out : Type 0
       Out = RequestWritten slot limit listing area (write_request slot limit listing (length area)) (area_written slot limit listing area)
-
-      reading : {x : ReadRequest} → handed_request slot limit listing ≡ x → (handed_request slot limit listing).reading ≡ x.reading
-      reading e = ap (λ (y : ReadRequest). y.reading) e
 
       whole : (n : ℕ) → InRange slot limit → EntriesRise listing n → length listing ≡ 3 * n → Dec (length area < 15 + 6 * n) → Out
       whole n i r l (yes q) =
@@ -123,31 +118,29 @@ module _ (slot : CoreSlot) (limit : ℕ) (listing area : List ℕ) where
           (RequestWritten.written n i.slot_range i.limit_range l r room (request_stands slot limit listing n area room))
 
       at : (x : ReadRequest) → handed_request slot limit listing ≡ x → Handed slot limit listing x → Out
-      at x e (Handed.no_slot h) = given _ _ (write_refused slot limit listing area _ (reading e)) (RequestWritten.slot_high h)
-      at x e (Handed.no_limit h k) = given _ _ (write_refused slot limit listing area _ (reading e)) (RequestWritten.limit_high h k)
+      at x e (Handed.no_slot h) = given _ _ (write_refused slot limit listing area _ e) (RequestWritten.slot_high h)
+      at x e (Handed.no_limit h k) = given _ _ (write_refused slot limit listing area _ e) (RequestWritten.limit_high h k)
       at x e (Handed.no_entry_lem n i r (Stop.high l f)) =
-          given _ _ (write_refused slot limit listing area _ (reading e)) (RequestWritten.out_of_range n i.slot_range i.limit_range r l f)
+          given _ _ (write_refused slot limit listing area _ e) (RequestWritten.out_of_range n i.slot_range i.limit_range r l f)
       at x e (Handed.no_entry_lem zero i r (Stop.low l f)) = absurd (omega arith)
       at x e (Handed.no_entry_lem (suc m) i r (Stop.low l f)) =
-          given _ _ (write_refused slot limit listing area _ (reading e))
+          given _ _ (write_refused slot limit listing area _ e)
           (RequestWritten.not_rising m i.slot_range i.limit_range r l (omega arith))
       at x e (Handed.whole n i r l) = whole n i r l (dec_lt (length area) (15 + 6 * n))
 
   -- Whatever its cases say is what writing a request gives.
-  request_gives : {r : Writing} {out : List ℕ} → RequestWritten slot limit listing area r out → Gives slot limit listing area r out
-  unfolding refused_request floor_of
+  request_gives : {r : Reading ℕ} {out : List ℕ} → RequestWritten slot limit listing area r out → Gives slot limit listing area r out
+  unfolding floor_of
   request_gives (RequestWritten.slot_high h) =
-      write_refused slot limit listing area _ (ap (λ (y : ReadRequest). y.reading) (high_slot slot limit listing h))
+      write_refused slot limit listing area _ (high_slot slot limit listing h)
   request_gives (RequestWritten.limit_high h k) =
-      write_refused slot limit listing area _ (ap (λ (y : ReadRequest). y.reading) (high_limit slot limit listing h k))
+      write_refused slot limit listing area _ (high_limit slot limit listing h k)
   request_gives (RequestWritten.out_of_range n h k e l f) =
       write_refused slot limit listing area _
-      (ap (λ (y : ReadRequest). y.reading)
-      (handed_refused slot limit listing n _ (record { slot_range = h; limit_range = k }) e (Stop.high l f)))
+      (handed_refused slot limit listing n _ (record { slot_range = h; limit_range = k }) e (Stop.high l f))
   request_gives (RequestWritten.not_rising m h k e l f) =
       write_refused slot limit listing area _
-      (ap (λ (y : ReadRequest). y.reading)
-      (handed_refused slot limit listing (suc m) _ (record { slot_range = h; limit_range = k }) e (Stop.low l (omega arith))))
+      (handed_refused slot limit listing (suc m) _ (record { slot_range = h; limit_range = k }) e (Stop.low l (omega arith)))
   request_gives (RequestWritten.small n h k l e q) =
       write_small slot limit listing area n (record { slot_range = h; limit_range = k }) e l q
   request_gives (RequestWritten.written n {after = after} h k l e room x) =
@@ -155,7 +148,7 @@ module _ (slot : CoreSlot) (limit : ℕ) (listing area : List ℕ) where
       (g.0, stands_one slot limit listing n area after _ x (request_stands slot limit listing n area room) ∙ g.1)
 
   -- The cases give one result and one area.
-  pub request_written_one : {r s : Writing} {a b : List ℕ} → RequestWritten slot limit listing area r a → RequestWritten slot limit listing area s b
+  pub request_written_one : {r s : Reading ℕ} {a b : List ℕ} → RequestWritten slot limit listing area r a → RequestWritten slot limit listing area s b
       → (r ≡ s) × (a ≡ b)
   request_written_one x y =
       let g = request_gives x in

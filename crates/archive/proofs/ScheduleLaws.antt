@@ -1,17 +1,21 @@
 -- A schedule's parts: the owners of a record one by one, what is said of an id, and the schedule of a timetable. Assumes nothing.
 use borrow.Author.Tests.{le-ltb, lt-ltb}
 use lib.Dec.{ltb}
-use lib.ListN.{get_or, get_or-replicate, length, length-append, length-replicate, length-set, get_or-append, get_or-map, replicate, set}
-use lib.Seq.{ext_get_or, get_or_at, get_or-set_other, get_or-set_same}
-use mathlib.Core.Bool.{cond}
+use lib.ListN.{drop, get_or, get_or-replicate, length, length-append, length-drop, length-replicate, get_or-append, get_or-map, replicate, take}
+use lib.Seq.{ext_get_or, get_or_at, get_or-append-add, get_or-drop, get_or-take, take-suc}
+use mathlib.Core.Bool.{Bool, ◌&&◌, and-true}
 use mathlib.Core.List.{List, [], ◌∷◌, ◌++◌, map}
-use mathlib.Core.Path.{◌≡◌, refl, sym, ◌∙◌}
+use mathlib.Core.Path.{◌≡◌, refl, sym, ap, ◌∙◌}
 use native.Mathlib.Decide.{ℕ_discrete, dec_lt}
 use native.Mathlib.Omega.{arith}
-use Prim.Native.Nat.{ℕ, zero, suc, ◌+◌, ◌<◌}
+use Prim.Native.Nat.{ℕ, zero, suc, ◌+◌, ◌-◌, ◌≤◌, ◌<◌}
 use Rattle.archive.specs.AnswerRead.{told_owner, owners_below, entry_offset, id_offset, told_length}
 use Rattle.records.specs.Request.{content_at}
-use Rattle.slots.specs.Limits.{LONGEST}
+use Rattle.slots.specs.Below.{every}
+use Rattle.std.proofs.lemmas.List.{length-take}
+use Rattle.std.proofs.lemmas.List.Folds.{list_all-append}
+use Rattle.std.specs.List.{list_all}
+use Rattle.slots.specs.Limits.{IDS, LONGEST}
 use Rattle.timetable.specs.declared.Entry.{Entry}
 use Rattle.timetable.specs.Timetable.{entry_of, no_entry}
 
@@ -37,27 +41,54 @@ module _ (s : List ℕ) where
   owners_are n l e h =
       ext_get_or 0 l (owners_below s n) (e ∙ sym (owners_length n)) (λ k b. h k (omega (arith, e)) ∙ sym (owner_below n k (omega (arith, e))))
 
-  -- A list has the first n owners, and 0 behind them.
-  abbrev pub OwnersIn : List ℕ → ℕ → Type 0
-  OwnersIn l n = (length l ≡ LONGEST) × ((k : ℕ) → k < LONGEST → get_or l k 0 ≡ cond (ltb k n) (content_at s 4 k) 0)
-
-  -- It begins with none.
-  pub owners_none : OwnersIn (replicate LONGEST 0) 0
-  owners_none = (length-replicate {A = ℕ} LONGEST 0, λ k h. rw (le-ltb k 0 (omega arith)) (get_or-replicate LONGEST k 0 0 h))
-
-  -- One owner more is put in its place.
-  pub owners_next : (l : List ℕ) (n : ℕ) → n < LONGEST → OwnersIn l n → OwnersIn (set l n (content_at s 4 n)) (n + 1)
-  owners_next l n b o = (length-set l n _ ∙ o.0, λ k h. by k h (ℕ_discrete k n) (dec_lt k n))
+  -- Owners that were copied to the front of zeros are the owners.
+  pub owners_copied : (n : ℕ) → n ≡ told_length s → n ≤ LONGEST → 7 + n ≤ length s
+      → take (7 + n - 7) (drop 7 s) ++ drop n (replicate LONGEST 0) ≡ owners_below s LONGEST
+  unfolding told_owner content_at
+  owners_copied n e b h = owners_are LONGEST front_and_zeros count (λ k l. by k l (dec_lt k n))
     where
-      by : (k : ℕ) → k < LONGEST → Dec (k ≡ n) → Dec (k < n) → get_or (set l n (content_at s 4 n)) k 0 ≡ cond (ltb k (n + 1)) (content_at s 4 k) 0
-      by k h (yes q) d = rw (q, lt-ltb n (n + 1) (omega arith)) (get_or-set_same l n _ 0 (omega (arith, o.0)))
-      by k h (no q) (yes d) = rw (lt-ltb k (n + 1) (omega arith)) (get_or-set_other l n k _ 0 q ∙ o.1 k h ∙ rw (lt-ltb k n d))
-      by k h (no q) (no d) = rw (le-ltb k (n + 1) (omega arith)) (get_or-set_other l n k _ 0 q ∙ o.1 k h ∙ rw (le-ltb k n (omega arith)))
+      front : List ℕ
+      front = take (7 + n - 7) (drop 7 s)
 
-  -- With as many as the length tells it has them all.
-  pub owners_all : (l : List ℕ) → OwnersIn l (told_length s) → l ≡ owners_below s LONGEST
-  unfolding told_owner
-  owners_all l o = owners_are LONGEST l o.0 o.1
+      zeros : List ℕ
+      zeros = drop n (replicate LONGEST 0)
+
+      front_and_zeros : List ℕ
+      front_and_zeros = front ++ zeros
+
+      front_count : length front ≡ n
+      front_count = omega (arith, length-take (7 + n - 7) (drop 7 s), length-drop 7 s)
+
+      count : length front_and_zeros ≡ LONGEST
+      count = omega (arith, length-append front zeros, front_count, length-drop {A = ℕ} n (replicate LONGEST 0), length-replicate {A = ℕ} LONGEST 0)
+
+      by : (k : ℕ) → k < LONGEST → Dec (k < n) → get_or front_and_zeros k 0 ≡ told_owner s k
+      by k l (yes d) =
+          get_or-append front zeros 0 k (omega (arith, front_count))
+          ∙ get_or-take (7 + n - 7) (drop 7 s) k 0 (omega arith) ∙ get_or-drop 7 s k 0 ∙ rw (lt-ltb k (told_length s) (omega arith))
+      by k l (no d) =
+          let m : k ≡ length front + (k - n) = omega (arith, front_count) in
+          let j : n + (k - n) ≡ k = omega arith in
+          rw (le-ltb k (told_length s) (omega arith))
+          (ap (λ (x : ℕ). get_or front_and_zeros x 0) m ∙ get_or-append-add front zeros (k - n) 0 ∙ get_or-drop n (replicate LONGEST 0) (k - n) 0
+          ∙ ap (λ (x : ℕ). get_or (replicate LONGEST 0) x 0) j ∙ get_or-replicate LONGEST k 0 0 l)
+
+  -- Whether all of the first n owners are below 32 is whether each is.
+  owners_each : (n : ℕ) → 7 + n ≤ length s → list_all (λ (o : ℕ). ltb o IDS) (take n (drop 7 s)) ≡ every n (λ k. ltb (content_at s 4 k) IDS)
+  unfolding every content_at
+  owners_each zero h = refl
+  owners_each (suc n) h =
+      rw (
+        take-suc (drop 7 s) n 0 (omega (arith, length-drop 7 s)),
+        list_all-append (λ (o : ℕ). ltb o IDS) (take n (drop 7 s)) (get_or (drop 7 s) n 0 ∷ []),
+        owners_each n (omega arith),
+        get_or-drop 7 s n 0,
+      )
+      (ap (λ (b : Bool). every n (λ k. ltb (content_at s 4 k) IDS) && b) (and-true _))
+
+  -- The same of the run from the first owner to the last.
+  pub owners_all : (n : ℕ) → 7 + n ≤ length s → list_all (λ (o : ℕ). ltb o IDS) (take (7 + n - 7) (drop 7 s)) ≡ every n (λ k. ltb (content_at s 4 k) IDS)
+  owners_all n h = let m : 7 + n - 7 ≡ n = omega arith in rw m (owners_each n h)
 
 -- What is said of id i is what its entry says.
 pub placed_map : (es : List Entry) (i : ℕ) → id_offset (map entry_offset es) i ≡ entry_offset (entry_of es i)

@@ -1,21 +1,21 @@
 -- A listing that is handed over, entry by entry: those in range that rise, and the one place where they end or the next is refused. Assumes nothing.
 use borrow.Author.Tests.{le-leb, leb-false, leb-true, lt-ltb, ltb-true}
 use lib.Dec.{leb, ltb}
-use lib.ListN.{length, set}
+use lib.ListN.{drop, get_or, length, length-drop, set, take}
+use lib.Seq.{get_or-drop}
+use Rattle.std.proofs.lemmas.List.{take_all}
 use mathlib.Core.Bool.{Bool, true, false, cond, ◌&&◌}
 use mathlib.Core.List.{List}
 use mathlib.Core.Path.{◌≡◌, refl, sym, ap, ap₂, ◌∙◌}
 use native.Mathlib.Decide.{ℕ_discrete, dec_lt}
 use native.Mathlib.Omega.{arith}
-use Prim.Native.Nat.{ℕ, zero, suc, ◌+◌, ◌*◌, ◌≤◌, ◌<◌}
-use Rattle.archive.specs.RequestWrite.{ask_at, bound_of, id_of, is_entry, k_of, take_entries}
+use Prim.Native.Nat.{ℕ, zero, suc, ◌+◌, ◌-◌, ◌*◌, ◌≤◌, ◌<◌}
+use Rattle.std.specs.Prelude.{Ok, Err}
+use Rattle.archive.specs.RequestWrite.{ask_at, bound_of, id_of, is_entry, checked, k_of, take_entries}
 use Rattle.archive.specs.Writes.{EntriesRise, EntryRange}
 use Rattle.numbers.specs.Numbers.{NOT_RISING, OUT_OF_RANGE, refusal}
 use Rattle.records.specs.declared.Ask.{Ask}
-use Rattle.records.specs.declared.Listing.{Listing}
-use Rattle.records.specs.declared.Reading.{Reading}
-use Rattle.records.specs.declared.Reading.TheVariants.{Whole, Refused}
-use Rattle.records.specs.Request.{no_asks}
+use Rattle.records.specs.Request.{no_asks, Reading}
 use Rattle.slots.proofs.Below.{and_both}
 use Rattle.slots.specs.Limits.{IDS, LARGEST_BOUND, LARGEST_K}
 use Rattle.timetable.specs.Sound.{is_bound}
@@ -30,6 +30,18 @@ module _ (listing : List ℕ) where
   unfoldable pub asks_of : ℕ → List Ask
   asks_of zero = no_asks
   asks_of (suc n) = set (asks_of n) (id_of listing n) (ask_at listing n)
+
+  -- A byte of the listing from entry n on.
+  pub entry_byte : (n j : ℕ) → get_or (take (length listing - 3 * n) (drop (3 * n) listing)) j 0 ≡ get_or listing (3 * n + j) 0
+  entry_byte n j = rw (take_all (length listing - 3 * n) (drop (3 * n) listing) (omega (arith, length-drop (3 * n) listing))) (get_or-drop (3 * n) listing j 0)
+
+  -- The first of them is its id.
+  pub entry_first : (n : ℕ) → get_or (take (length listing - 3 * n) (drop (3 * n) listing)) 0 0 ≡ id_of listing n
+  entry_first n = let m : 3 * n + 0 ≡ 3 * n = omega arith in entry_byte n 0 ∙ ap (λ (k : ℕ). get_or listing k 0) m
+
+  -- How many they are.
+  pub entry_room : (n : ℕ) → length (take (length listing - 3 * n) (drop (3 * n) listing)) ≡ length listing - 3 * n
+  entry_room n = rw (take_all (length listing - 3 * n) (drop (3 * n) listing) (omega (arith, length-drop (3 * n) listing))) (length-drop (3 * n) listing)
 
   -- An entry that passes the test is in range.
   pub entry_range : (n : ℕ) → is_entry listing n ≡ true → EntryRange listing n
@@ -114,23 +126,23 @@ module _ (listing : List ℕ) where
   rise_few (suc n) r = omega (arith, rise_count (suc n) r, (r.range n (omega arith)).id)
 
   -- Why no entry after the first n is taken: none is left, or the next is out of range, or it is not above the one before.
-  pub data Stop (n : ℕ) : Reading → Type 0 where
-    end : length listing ≡ 3 * n → Stop n Whole
-    high : 3 * n < length listing → ¬ (EntryRange listing n) → Stop n (Refused (refusal OUT_OF_RANGE n))
-    low : EntryRange listing n → id_of listing n < floor_of n → Stop n (Refused (refusal NOT_RISING n))
+  pub data Stop (n : ℕ) : Reading (List Ask) → Type 0 where
+    end : length listing ≡ 3 * n → Stop n (Ok (asks_of n))
+    high : 3 * n < length listing → ¬ (EntryRange listing n) → Stop n (Err (refusal OUT_OF_RANGE n))
+    low : EntryRange listing n → id_of listing n < floor_of n → Stop n (Err (refusal NOT_RISING n))
 
   -- Entries that rise go no further than where they stop.
-  stop_last : (n m : ℕ) {x : Reading} → Stop n x → EntriesRise listing m → m ≤ n
+  stop_last : (n m : ℕ) {x : Reading (List Ask)} → Stop n x → EntriesRise listing m → m ≤ n
   stop_last n m s r = at (dec_lt n m) s
     where
-      at : Dec (n < m) → {x : Reading} → Stop n x → m ≤ n
+      at : Dec (n < m) → {x : Reading (List Ask)} → Stop n x → m ≤ n
       at (no q) s = omega arith
       at (yes q) (Stop.end e) = omega (arith, rise_inside m r)
       at (yes q) (Stop.high e f) = absurd (f (r.range n q))
       at (yes q) (Stop.low e f) = omega (arith, rise_floor n (rise_less (suc n) r q))
 
   -- The same end of the same entries is the same reading.
-  stop_same : (n : ℕ) {x y : Reading} → Stop n x → Stop n y → x ≡ y
+  stop_same : (n : ℕ) {x y : Reading (List Ask)} → Stop n x → Stop n y → x ≡ y
   stop_same n (Stop.end e) (Stop.end f) = refl
   stop_same n (Stop.end e) (Stop.high f g) = absurd (omega arith)
   stop_same n (Stop.end e) (Stop.low f g) = absurd (omega (arith, f.inside))
@@ -141,34 +153,32 @@ module _ (listing : List ℕ) where
   stop_same n (Stop.low e f) (Stop.high g h) = absurd (h e)
   stop_same n (Stop.low e f) (Stop.low g h) = refl
 
-  -- How a listing is taken: entries that rise up to where they stop, and what they ask.
-  pub record Taken (x : Listing) : Type 0 where
+  -- How a listing is taken: entries that rise up to where they stop.
+  pub record Taken (x : Reading (List Ask)) : Type 0 where
     pub n : ℕ
     pub rise : EntriesRise listing n
-    pub stop : Stop n x.reading
-    pub asks : x.asks ≡ asks_of n
+    pub stop : Stop n x
 
   -- The entries from entry n on are taken so.
   taken_from : (most n : ℕ) → length listing ≤ 3 * n + most → EntriesRise listing n → Taken (take_entries most listing n (floor_of n) (asks_of n))
   unfolding take_entries asks_of floor_of
-  taken_from zero n h r = record { n = n; rise = r; stop = Stop.end (omega (arith, rise_inside n r)); asks = refl }
+  taken_from zero n h r = record { n = n; rise = r; stop = Stop.end (omega (arith, rise_inside n r)) }
   taken_from (suc most) n h r =
       at (leb (length listing) (3 * n)) refl (is_entry listing n) refl (leb (floor_of n) (id_of listing n)) refl (taken_from most (suc n) (omega arith))
     where
       at : (a : Bool) → leb (length listing) (3 * n) ≡ a → (b : Bool) → is_entry listing n ≡ b → (d : Bool) → leb (floor_of n) (id_of listing n) ≡ d
           → (EntriesRise listing (suc n) → Taken (take_entries most listing (suc n) (floor_of (suc n)) (asks_of (suc n))))
           → Taken
-          (cond a (record { reading = Whole; asks = asks_of n })
+          (cond a (Ok (asks_of n))
           (cond b
-          (cond d (take_entries most listing (suc n) (floor_of (suc n)) (asks_of (suc n)))
-          (record { reading = Refused (refusal NOT_RISING n); asks = asks_of n }))
-          (record { reading = Refused (refusal OUT_OF_RANGE n); asks = asks_of n })))
+          (cond d (take_entries most listing (suc n) (floor_of (suc n)) (asks_of (suc n))) (Err (refusal NOT_RISING n)))
+          (Err (refusal OUT_OF_RANGE n))))
       at true e b f d g ih =
-          record { n = n; rise = r; stop = Stop.end (omega (arith, leb-true (length listing) (3 * n) e, rise_inside n r)); asks = refl }
+          record { n = n; rise = r; stop = Stop.end (omega (arith, leb-true (length listing) (3 * n) e, rise_inside n r)) }
       at false e false f d g ih =
-          record { n = n; rise = r; stop = Stop.high (leb-false (length listing) (3 * n) e) (entry_fails n f); asks = refl }
+          record { n = n; rise = r; stop = Stop.high (leb-false (length listing) (3 * n) e) (entry_fails n f) }
       at false e true f false g ih =
-          record { n = n; rise = r; stop = Stop.low (entry_range n f) (leb-false (floor_of n) (id_of listing n) g); asks = refl }
+          record { n = n; rise = r; stop = Stop.low (entry_range n f) (leb-false (floor_of n) (id_of listing n) g) }
       at false e true f true g ih = ih (rise_more n r (entry_range n f) (leb-true (floor_of n) (id_of listing n) g))
 
   -- The whole listing is taken so,
@@ -177,13 +187,13 @@ module _ (listing : List ℕ) where
   entries_taken = taken_from (length listing) 0 (omega arith) rise_none
 
   -- and in no other way.
-  pub taken_is : (n : ℕ) (x : Reading) → EntriesRise listing n → Stop n x
-      → take_entries (length listing) listing 0 0 no_asks ≡ record { reading = x; asks = asks_of n }
+  pub taken_is : (n : ℕ) (x : Reading (List Ask)) → EntriesRise listing n → Stop n x → take_entries (length listing) listing 0 0 no_asks ≡ x
   taken_is n x r s =
       let t = entries_taken in
       let e : t.n ≡ n = omega (arith, stop_last n t.n s t.rise, stop_last t.n n t.stop r) in
-      ap₂ (λ (y : Reading) (z : List Ask). record { reading = y; asks = z }) (stop_same n (rw e at t.stop) s) (rw e at t.asks)
+      stop_same n (rw e at t.stop) s
 
-  -- The reading that entries give where they stop.
-  pub reading_is : (n : ℕ) (x : Reading) → EntriesRise listing n → Stop n x → x ≡ (take_entries (length listing) listing 0 0 no_asks).reading
-  reading_is n x r s = sym (ap (λ (y : Listing). y.reading) (taken_is n x r s))
+  -- What is checked of entries where they stop.
+  pub checked_is : (n : ℕ) (x : Reading (List Ask)) → EntriesRise listing n → Stop n x
+      → checked x ≡ checked (take_entries (length listing) listing 0 0 no_asks)
+  checked_is n x r s = sym (ap (λ (y : Reading (List Ask)). checked y) (taken_is n x r s))

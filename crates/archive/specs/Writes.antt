@@ -1,11 +1,10 @@
 -- docs/RULES.md 6.11 and 6.12: what the writer of requests gives, case by case and field by field. It says nothing of how it is written.
-use Rattle.std.specs.Prelude.{get_or, length, List, [], ◌∷◌, ◌≢◌, ◌≡◌, ℕ, suc, ◌+◌, ◌*◌, ◌≤◌, ◌<◌}
-use Rattle.archive.specs.declared.Writing.{Writing}
+use Rattle.std.specs.Prelude.{get_or, length, List, [], ◌∷◌, ◌≢◌, ◌≡◌, ℕ, suc, ◌+◌, ◌*◌, ◌≤◌, ◌<◌, Ok, Err}
 use Rattle.archive.specs.RequestWrite.{ask_at, bound_of, id_of, k_of}
-use Rattle.numbers.specs.Numbers.{ACCEPTED, SMALL_AREA, OUT_OF_RANGE, NOT_RISING}
+use Rattle.numbers.specs.Numbers.{SMALL_AREA, OUT_OF_RANGE, NOT_RISING}
 use Rattle.records.specs.AnswerForm.{Stand}
 use Rattle.records.specs.declared.Ask.{Ask}
-use Rattle.records.specs.Request.{ask_of, no_ask}
+use Rattle.records.specs.Request.{ask_of, no_ask, Reading}
 use Rattle.records.specs.Written.{number_bytes}
 use Rattle.slots.specs.declared.CoreSlot.{CoreSlot}
 use Rattle.slots.specs.Limits.{IDS, LARGEST_BOUND, LARGEST_K, LAST_SLOT, LONGEST}
@@ -36,26 +35,26 @@ pub record RequestStands (slot : CoreSlot) (limit : ℕ) (listing before : List 
   pub same : length after ≡ length before
 
 -- What writing a request returns, and the area afterwards: the first case that holds, in this order; a refusal leaves the area as it was.
-pub data RequestWritten (slot : CoreSlot) (limit : ℕ) (listing area : List ℕ) : Writing → List ℕ → Type 0 where
+pub data RequestWritten (slot : CoreSlot) (limit : ℕ) (listing area : List ℕ) : Reading ℕ → List ℕ → Type 0 where
   -- the slot above 2^48 - 1: place 64
-  slot_high : LAST_SLOT < slot.0 → RequestWritten slot limit listing area (record { number = OUT_OF_RANGE; place = 64; written = 0 }) area
+  slot_high : LAST_SLOT < slot.0 → RequestWritten slot limit listing area (Err (record { number = OUT_OF_RANGE; place = 64 })) area
   -- T above 64: place 65
   limit_high : slot.0 ≤ LAST_SLOT → LONGEST < limit
-      → RequestWritten slot limit listing area (record { number = OUT_OF_RANGE; place = 65; written = 0 }) area
+      → RequestWritten slot limit listing area (Err (record { number = OUT_OF_RANGE; place = 65 })) area
   -- entry n cut short or out of range
   out_of_range : (n : ℕ) → slot.0 ≤ LAST_SLOT → limit ≤ LONGEST → EntriesRise listing n → 3 * n < length listing → ¬ (EntryRange listing n)
-      → RequestWritten slot limit listing area (record { number = OUT_OF_RANGE; place = n; written = 0 }) area
+      → RequestWritten slot limit listing area (Err (record { number = OUT_OF_RANGE; place = n })) area
   -- the id of entry m + 1 not above the one before
   not_rising : (m : ℕ) → slot.0 ≤ LAST_SLOT → limit ≤ LONGEST → EntriesRise listing (suc m) → EntryRange listing (suc m)
       → id_of listing (suc m) ≤ id_of listing m
-      → RequestWritten slot limit listing area (record { number = NOT_RISING; place = suc m; written = 0 }) area
+      → RequestWritten slot limit listing area (Err (record { number = NOT_RISING; place = suc m })) area
   -- the area shorter than the record
   small : (n : ℕ) → slot.0 ≤ LAST_SLOT → limit ≤ LONGEST → length listing ≡ 3 * n → EntriesRise listing n → length area < 15 + 6 * n
-      → RequestWritten slot limit listing area (record { number = SMALL_AREA; place = 0; written = 0 }) area
+      → RequestWritten slot limit listing area (Err (record { number = SMALL_AREA; place = 0 })) area
   -- the record written
   written : (n : ℕ) {after : List ℕ} → slot.0 ≤ LAST_SLOT → limit ≤ LONGEST → length listing ≡ 3 * n → EntriesRise listing n
       → 15 + 6 * n ≤ length area → RequestStands slot limit listing area n after
-      → RequestWritten slot limit listing area (record { number = ACCEPTED; place = 0; written = 15 + 6 * n }) after
+      → RequestWritten slot limit listing area (Ok (15 + 6 * n)) after
 
 -- What is asked for each id: what its entry says, and nothing where no entry has the id.
 pub record ListsEntries (listing : List ℕ) (asks : List Ask) : Type 0 where

@@ -1,14 +1,14 @@
 // Reading an answer in a record that is lent, by its places. It refuses 3 for every other form than the controller's, at the place of the field in which that shows.
-ghost use Rattle.std.specs.Prelude.{◌≢◌, ◌≡◌, ◌+◌, ◌≤◌, ◌<◌, leb, length, replicate};
-ghost use Rattle.archive.specs.AnswerRead.{are_owners, field_at, floor_at, length_field, length_stands, no_offset, no_schedule, offset_field, offset_stands, owners_below, owners_field, owners_stand, read_from, refused_answer, refused_at, told_length, told_owner};
+ghost use Rattle.std.specs.Prelude.{◌≢◌, ◌≡◌, ◌+◌, ◌≤◌, ◌<◌, leb, length, replicate, Err, None};
+ghost use Rattle.archive.specs.AnswerRead.{are_owners, field_at, floor_at, length_field, length_stands, no_schedule, offset_field, offset_stands, owners_below, owners_field, owners_stand, read_from, told_length, told_owner};
 ghost use Rattle.archive.specs.AnswerReads.{AnswerRead};
 ghost use Rattle.numbers.specs.Numbers.{BAD_FIELD, refusal};
 ghost use Rattle.slots.specs.Limits.{IDS, LONGEST};
 
-use super::{AnswerField, AnswerStep, IdOffset, ReadAnswer, Schedule};
+use super::{AnswerField, AnswerStep, Schedule};
 use numbers::Refusal;
 use records::write::{LENGTH_TAG, OFFSET_TAG, OWNERS_TAG};
-use records::{Reading, content_at, is_field};
+use records::{content_at, is_field};
 use timetable::Timetable;
 
 // The place of the owners' field.
@@ -17,8 +17,11 @@ const OWNERS_AT: usize = 4;
 // The place of the first owner.
 const FIRST_OWNER: usize = 7;
 
+// An offset's field has this many bytes.
+const OFFSET_FIELD: usize = 5;
+
 // What all fields from a place on say, or the first that is refused.
-pub fn rest_at(s: &[u8], from: usize) -> ReadAnswer
+pub fn rest_at(s: &[u8], from: usize) -> Result<Schedule, Refusal>
     ensures { result ≡ read_from s.now from }
 {
     if from == 0 {
@@ -30,8 +33,8 @@ pub fn rest_at(s: &[u8], from: usize) -> ReadAnswer
     from_offsets(s, from, 0, [0; Timetable::LONGEST])
 }
 
-// What stands at a place, and the place after it.
-pub fn field_at(s: &[u8], at: usize) -> AnswerStep
+// What stands at a place: a field, nothing more, or the refusal.
+pub fn field_at(s: &[u8], at: usize) -> Result<Option<AnswerStep>, Refusal>
     ensures { result ≡ field_at s.now at }
 {
     if at == 0 {
@@ -41,63 +44,57 @@ pub fn field_at(s: &[u8], at: usize) -> AnswerStep
         return owners_field(s);
     }
     if s.len() <= at {
-        return AnswerStep {
-            field: AnswerField::End,
-            next: at,
-        };
+        return Ok(None);
     }
     offset_field(s, at)
 }
 
 // Tag 10 hex, length 1: the transition's length, at most 64.
-fn length_field(s: &[u8]) -> AnswerStep
+fn length_field(s: &[u8]) -> Result<Option<AnswerStep>, Refusal>
     ensures { result ≡ length_field s.now }
 {
     if !length_stands(s) {
-        return refused_at(0);
+        return Err(bad_field(0));
     }
-    AnswerStep {
+    Ok(Some(AnswerStep {
         field: AnswerField::Length(told_length(s)),
         next: OWNERS_AT,
-    }
+    }))
 }
 
 // Tag 11 hex: as many owners as the length says.
-fn owners_field(s: &[u8]) -> AnswerStep
+fn owners_field(s: &[u8]) -> Result<Option<AnswerStep>, Refusal>
     ensures { result ≡ owners_field s.now }
 {
     if !owners_stand(s) {
-        return refused_at(OWNERS_AT);
+        return Err(bad_field(OWNERS_AT));
     }
     let size = told_length(s);
-    AnswerStep {
+    Ok(Some(AnswerStep {
         field: AnswerField::Owners(size),
         next: FIRST_OWNER + (size as usize),
-    }
+    }))
 }
 
 // Tag 12 hex, length 2: an id above the one before, and its offset.
-fn offset_field(s: &[u8], at: usize) -> AnswerStep
+fn offset_field(s: &[u8], at: usize) -> Result<Option<AnswerStep>, Refusal>
     requires { 0 < at }
     ensures { result ≡ offset_field s.now at }
 {
     if !offset_stands(s, at) {
-        return refused_at(at);
+        return Err(bad_field(at));
     }
-    AnswerStep {
+    Ok(Some(AnswerStep {
         field: AnswerField::Offset(content_at(s, at, 0), content_at(s, at, 1)),
-        next: at + 5,
-    }
+        next: at + OFFSET_FIELD,
+    }))
 }
 
-// A field of another form than the controller's: 3, at its place.
-fn refused_at(at: usize) -> AnswerStep
-    ensures { result ≡ refused_at at }
+// The refusal of a field of another form than the controller's: 3, at its place.
+fn bad_field(at: usize) -> Refusal
+    ensures { result ≡ refusal BAD_FIELD at }
 {
-    AnswerStep {
-        field: AnswerField::Refused(Refusal::of(Refusal::BAD_FIELD, at)),
-        next: at,
-    }
+    Refusal::of(Refusal::BAD_FIELD, at)
 }
 
 // Whether the length stands at 0.
@@ -146,21 +143,14 @@ fn told_length(s: &[u8]) -> u8
     if s.len() <= 3 { 0 } else { s[3] }
 }
 
-// Whether each of these owners is 0 to 31. All are looked at, so that nothing waits for an answer.
+// Whether each of these owners is 0 to 31.
 fn are_owners(s: &[u8], size: u8) -> bool
     requires { 7 + size ≤ length s.now }
     ensures { result ≡ are_owners s.now size }
 {
-    let count = size as usize;
-    let mut are = true;
-    let mut n: usize = 0;
-    while n < count {
-        if Timetable::IDS <= (s[FIRST_OWNER + n] as usize) {
-            are = false;
-        }
-        n += 1;
-    }
-    are
+    s[FIRST_OWNER..FIRST_OWNER + (size as usize)]
+        .iter()
+        .all(|owner| (*owner as usize) < Timetable::IDS)
 }
 
 // The owners of all transition slots, and 0 for those that the transition does not have.
@@ -170,11 +160,7 @@ fn owners_of(s: &[u8]) -> [u8; Timetable::LONGEST]
 {
     let count = told_length(s) as usize;
     let mut owners = [0; Timetable::LONGEST];
-    let mut n: usize = 0;
-    while n < count {
-        owners[n] = s[FIRST_OWNER + n];
-        n += 1;
-    }
+    owners[..count].copy_from_slice(&s[FIRST_OWNER..FIRST_OWNER + count]);
     owners
 }
 
@@ -203,71 +189,51 @@ fn is_above(s: &[u8], at: usize, id: u8) -> bool
 }
 
 // What is read from the length on.
-fn from_length(s: &[u8]) -> ReadAnswer
+fn from_length(s: &[u8]) -> Result<Schedule, Refusal>
     ensures { AnswerRead s.now 0 no_schedule result }
 {
     if !length_stands(s) {
-        return refused(0);
+        return Err(bad_field(0));
     }
     from_owners(s, told_length(s))
 }
 
 // What is read from the owners on, behind this length.
-fn from_owners(s: &[u8], told: u8) -> ReadAnswer
-    ensures { AnswerRead s.now 4 (record { length = told; owners = replicate LONGEST 0; offsets = replicate IDS no_offset }) result }
+fn from_owners(s: &[u8], told: u8) -> Result<Schedule, Refusal>
+    ensures { AnswerRead s.now 4 (record { length = told; owners = replicate LONGEST 0; offsets = replicate IDS None }) result }
 {
     if !owners_stand(s) {
-        return refused(OWNERS_AT);
+        return Err(bad_field(OWNERS_AT));
     }
     let owners = owners_of(s);
     from_offsets(s, FIRST_OWNER + (told_length(s) as usize), told, owners)
 }
 
 // What is read from the offsets on, behind this length and these owners.
-fn from_offsets(s: &[u8], from: usize, told: u8, owners: [u8; Timetable::LONGEST]) -> ReadAnswer
+fn from_offsets(
+    s: &[u8],
+    from: usize,
+    told: u8,
+    owners: [u8; Timetable::LONGEST],
+) -> Result<Schedule, Refusal>
     requires { (from ≢ 0) × (from ≢ 4) }
-    ensures { AnswerRead s.now from (record { length = told; owners = owners; offsets = replicate IDS no_offset }) result }
+    ensures { AnswerRead s.now from (record { length = told; owners = owners; offsets = replicate IDS None }) result }
 {
-    let mut offsets = [IdOffset {
-        listed: false,
-        offset: 0,
-    }; Timetable::IDS];
+    let mut offsets = [None; Timetable::IDS];
     let mut at = from;
+    // No for loop: only the field itself tells whether one stands there.
     while offset_stands(s, at) {
         let id = content_at(s, at, 0);
         let offset = content_at(s, at, 1);
-        offsets[id as usize] = IdOffset {
-            listed: true,
-            offset,
-        };
-        at += 5;
+        offsets[id as usize] = Some(offset);
+        at += OFFSET_FIELD;
     }
     if at < s.len() {
-        return refused(at);
+        return Err(bad_field(at));
     }
-    ReadAnswer {
-        reading: Reading::Whole,
-        schedule: Schedule {
-            length: told,
-            owners,
-            offsets,
-        },
-    }
-}
-
-// A field of another form than the controller's: 3 at its place, and nothing is said.
-fn refused(at: usize) -> ReadAnswer
-    ensures { result ≡ refused_answer (refusal BAD_FIELD at) }
-{
-    ReadAnswer {
-        reading: Reading::Refused(Refusal::of(Refusal::BAD_FIELD, at)),
-        schedule: Schedule {
-            length: 0,
-            owners: [0; Timetable::LONGEST],
-            offsets: [IdOffset {
-                listed: false,
-                offset: 0,
-            }; Timetable::IDS],
-        },
-    }
+    Ok(Schedule {
+        length: told,
+        owners,
+        offsets,
+    })
 }

@@ -2,7 +2,7 @@
 use mathlib.Core.List.{List}
 use mathlib.Core.Path.{◌≡◌, sym, ◌∙◌}
 use Prim.Native.Nat.{ℕ}
-use Rattle.archive.specs.declared.AnswerStep.{AnswerStep}
+use Rattle.archive.specs.AnswerRead.{ReadField}
 use Rattle.board.specs.Archive.{AnswerTold, FieldTold, RequestTold}
 
 -- Reading an answer: number, place and the area.
@@ -22,9 +22,9 @@ request_told_unique slot limit listing area n p w n' p' w' a a' x y = (
 )
 
 -- A field: number, place, tag, the two bytes and the reader's place.
-pub field_told_unique : (step : AnswerStep) (n p t f s a n' p' t' f' s' a' : ℕ) → FieldTold step n p t f s a → FieldTold step n' p' t' f' s' a'
+pub field_told_unique : (at : ℕ) (read : ReadField) (n p t f s a n' p' t' f' s' a' : ℕ) → FieldTold at read n p t f s a → FieldTold at read n' p' t' f' s' a'
     → (n ≡ n') × (p ≡ p') × (t ≡ t') × (f ≡ f') × (s ≡ s') × (a ≡ a')
-field_told_unique step n p t f s a n' p' t' f' s' a' x y = (
+field_told_unique at read n p t f s a n' p' t' f' s' a' x y = (
   x.number_told ∙ sym y.number_told,
   x.place_told ∙ sym y.place_told,
   x.tag_told ∙ sym y.tag_told,

@@ -5,7 +5,7 @@ use mathlib.Core.List.{List, [], ◌∷◌, ◌++◌, append_assoc, map}
 use mathlib.Core.Path.{◌≡◌, refl, ap, ◌∙◌}
 use native.Mathlib.Omega.{arith}
 use Prim.Native.Nat.{ℕ, ◌+◌, ◌≤◌, ◌<◌}
-use Rattle.archive.specs.AnswerRead.{no_offset}
+use Rattle.std.specs.Prelude.{None}
 use Rattle.archive.specs.declared.Schedule.{Schedule}
 use Rattle.board.specs.Archive.{LISTED_AT, OFFSETS_AT, SCHEDULE, ScheduleStands, listed_byte, offset_byte, schedule_bytes}
 use Rattle.records.proofs.SetsLaws.{sets_front, sets_rest, sets_then}
@@ -68,8 +68,8 @@ module _ (x : Schedule) (os : length x.owners ≡ LONGEST) (ps : length x.offset
             ∙ get_or-append head listed 0 (1 + k) (omega arith) ∙ behind (x.length ∷ []) x.owners 1 k refl;
         listed = λ i h.
             front (65 + i) (omega arith) ∙ get_or-append (head ++ listed) offsets 0 (65 + i) (omega (arith, to_offsets))
-            ∙ behind head listed 65 i (omega arith) ∙ get_or-map listed_byte x.offsets i no_offset;
-        offset = λ i h. front (97 + i) (omega arith) ∙ behind (head ++ listed) offsets 97 i to_offsets ∙ get_or-map offset_byte x.offsets i no_offset;
+            ∙ behind head listed 65 i (omega arith) ∙ get_or-map listed_byte x.offsets i None;
+        offset = λ i h. front (97 + i) (omega arith) ∙ behind (head ++ listed) offsets 97 i to_offsets ∙ get_or-map offset_byte x.offsets i None;
         rest = λ n h. sets_rest before 0 n (schedule_bytes x) (omega (arith, schedule_length));
         same = length-sets before 0 (schedule_bytes x);
       }

@@ -9,7 +9,6 @@ ghost use Rattle.board.specs.Image.{Changed, OwnerTold, StandingTold, empty_imag
 use archive::AnswerField;
 use change::queries::{owner_query, standing_query};
 use numbers::Refusal;
-use records::Reading;
 use records::write::{LENGTH_TAG, OFFSET_TAG, OWNERS_TAG, write_answer};
 use slots::CoreSlot;
 use timetable::Timetable;
@@ -110,19 +109,16 @@ pub fn tarnflaw_standing(
 pub fn tarnflaw_read_answer(answer: &[u8], area: &mut [u8], place: &mut usize) -> u8
     ensures { AnswerTold answer.now area.old result place.new area.new }
 {
-    let read = archive::reader::read_answer(answer);
-    let reading = read.reading;
-    match reading {
-        Reading::Refused(refusal) => {
+    match archive::reader::read_answer(answer) {
+        Err(refusal) => {
             *place = refusal.place;
             refusal.number
         }
-        Reading::Whole => {
+        Ok(x) => {
             *place = 0;
             if area.len() < SCHEDULE {
                 return Refusal::SMALL_AREA;
             }
-            let x = read.schedule;
             schedule::put_schedule(area, x);
             Refusal::ACCEPTED
         }
@@ -140,10 +136,18 @@ pub fn tarnflaw_write_request(
 ) -> u8
     ensures { RequestTold slot limit listing.now area.old result place.new written.new area.new }
 {
-    let w = archive::writer::write_request(CoreSlot(slot), limit, listing, area);
-    *place = w.place;
-    *written = w.written;
-    w.number
+    match archive::writer::write_request(CoreSlot(slot), limit, listing, area) {
+        Ok(size) => {
+            *place = 0;
+            *written = size;
+            Refusal::ACCEPTED
+        }
+        Err(refusal) => {
+            *place = refusal.place;
+            *written = 0;
+            refusal.number
+        }
+    }
 }
 
 // What stands at a place of an archived answer. The place moves on behind it, unless nothing is left there or it is refused.
@@ -155,16 +159,22 @@ pub fn tarnflaw_answer_field(
     first: &mut u8,
     second: &mut u8,
 ) -> u8
-    ensures { FieldTold (field_at answer.now at.old) result place.new tag.new first.new second.new at.new }
+    ensures { FieldTold at.old (field_at answer.now at.old) result place.new tag.new first.new second.new at.new }
 {
-    let step = archive::answer::field_at(answer, *at);
-    *at = step.next;
     *place = 0;
     *tag = 0;
     *first = 0;
     *second = 0;
-    let field = step.field;
-    match field {
+    let step = match archive::answer::field_at(answer, *at) {
+        Ok(Some(step)) => step,
+        Ok(None) => return Refusal::ACCEPTED,
+        Err(refusal) => {
+            *place = refusal.place;
+            return refusal.number;
+        }
+    };
+    *at = step.next;
+    match step.field {
         AnswerField::Length(n) => {
             *tag = LENGTH_TAG;
             *first = n;
@@ -180,11 +190,6 @@ pub fn tarnflaw_answer_field(
             *first = id;
             *second = offset;
             Refusal::ACCEPTED
-        }
-        AnswerField::End => Refusal::ACCEPTED,
-        AnswerField::Refused(refusal) => {
-            *place = refusal.place;
-            refusal.number
         }
     }
 }

@@ -22,6 +22,6 @@ pub fn put_schedule(area: &mut [u8], x: Schedule)
 {
     area[0] = x.length;
     area[OWNERS_AT..LISTED_AT].copy_from_slice(&x.owners);
-    area[LISTED_AT..OFFSETS_AT].copy_from_slice(&x.offsets.map(|p| u8::from(p.listed)));
-    area[OFFSETS_AT..SCHEDULE].copy_from_slice(&x.offsets.map(|p| p.offset));
+    area[LISTED_AT..OFFSETS_AT].copy_from_slice(&x.offsets.map(|p| u8::from(p.is_some())));
+    area[OFFSETS_AT..SCHEDULE].copy_from_slice(&x.offsets.map(|p| p.unwrap_or(0)));
 }

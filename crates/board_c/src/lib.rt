@@ -85,7 +85,7 @@ pub extern "C" fn tarnflaw_answer_field(
     first: &mut u8,
     second: &mut u8,
 ) -> u8
-    ensures { FieldTold (field_at answer.now at.old) result place.new tag.new first.new second.new at.new }
+    ensures { FieldTold at.old (field_at answer.now at.old) result place.new tag.new first.new second.new at.new }
 {
     board::tarnflaw_answer_field(answer, at, place, tag, first, second)
 }

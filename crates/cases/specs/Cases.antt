@@ -7,7 +7,7 @@ use Rattle.change.specs.Queries.{standing_query}
 use Rattle.change.specs.Stages.{start_entries}
 use Rattle.frames.specs.Program.{program_lines}
 use Rattle.records.specs.Answer.{field}
-use Rattle.records.specs.Request.{read_request}
+use Rattle.records.specs.Request.{read_request, requested}
 use Rattle.slots.specs.Clocks.{core_slot}
 use Rattle.slots.specs.Limits.{AREA, LONGEST}
 use Rattle.slots.specs.Shortfall.{room_of, last_offset_of}
@@ -50,7 +50,7 @@ told a = answered a (record_of a)
 unfoldable pub given : Asked → Given
 given (change t s) = told (answer t s AREA)
 given (starts t s) =
-    let r = (read_request s).request in
+    let r = requested (read_request s) in
     let es = start_entries t r.slot r.asks in
     figures ((entry_of es 0).shortfall ∷ (entry_of es 1).shortfall ∷ (entry_of es 2).shortfall ∷ [])
 given (standing t i x) =

@@ -1,11 +1,12 @@
 -- Two requests, as they are read, that get the same answer: the stages before the search say the same of both, and so does the search. Assumes nothing.
 use mathlib.Core.Path.{◌≡◌, refl, ap, ap₂, ◌∙◌}
 use Prim.Native.Nat.{ℕ}
+use Rattle.std.specs.Prelude.{Ok, Err}
+use Rattle.records.specs.Request.{ReadRequest, requested}
 use Rattle.change.specs.Change.{answer_of, answer_to, new_timetable, number_of, place_of, search_of, shortfalls_of, start_plan, starts_of, timetable_of}
 use Rattle.change.specs.Stages.{verdict_before}
-use Rattle.numbers.specs.declared.Verdict.{Verdict}
-use Rattle.numbers.specs.declared.Verdict.TheVariants.{Passed, Refused}
-use Rattle.records.specs.declared.ReadRequest.{ReadRequest}
+use Rattle.numbers.specs.Chain.{Verdict}
+use Rattle.numbers.specs.Chain.{Passed}
 use Rattle.records.specs.declared.Request.{Request}
 use Rattle.slots.specs.declared.CoreSlot.{CoreSlot}
 use Rattle.timetable.specs.declared.Timetable.{Timetable}
@@ -29,11 +30,11 @@ same_slot t q q' e p x =
 -- The same verdict before the search, and past it the same answer of the search.
 pub alike : (t : Timetable) (read read' : ReadRequest) (area : ℕ) → verdict_before t read' area ≡ verdict_before t read area
     → (verdict_before t read area ≡ Passed
-    → answer_of t read'.request (search_of t read'.request) ≡ answer_of t read.request (search_of t read.request))
+    → answer_of t (requested read') (search_of t (requested read')) ≡ answer_of t (requested read) (search_of t (requested read)))
     → answer_to t read' area ≡ answer_to t read area
 unfolding answer_to
 alike t read read' area v s = at (verdict_before t read area) refl
   where
     at : (y : Verdict) → verdict_before t read area ≡ y → answer_to t read' area ≡ answer_to t read area
-    at (Refused x) e = rw (v ∙ e, answer_to, e)
-    at Passed e = rw (v ∙ e, answer_to, e) (s e)
+    at (Err x) e = rw (v ∙ e, answer_to, e)
+    at (Ok u) e = rw (v ∙ e, answer_to, e) (s e)

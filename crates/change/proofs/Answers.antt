@@ -8,6 +8,7 @@ use mathlib.Core.Path.{◌≡◌, refl, subst}
 use native.Mathlib.Nat.{zero-add}
 use native.Mathlib.Omega.{arith}
 use Prim.Native.Nat.{ℕ, suc, ◌≤◌, ◌<◌}
+use Rattle.std.specs.Prelude.{Ok, Err}
 use Rattle.change.proofs.Accept.{found_continues}
 use Rattle.change.proofs.Stages.{stages}
 use Rattle.change.proofs.Start.{start_count, start_fit}
@@ -17,14 +18,14 @@ use Rattle.change.specs.Refused.{not_sound, sound, small_area, enough, bad_field
 use Rattle.change.specs.Stages.{start_entries, verdict_before}
 use Rattle.numbers.specs.Chain.{refused as stops, passed}
 use Rattle.numbers.specs.declared.Refusal.{Refusal}
-use Rattle.numbers.specs.declared.Verdict.{Verdict}
-use Rattle.numbers.specs.declared.Verdict.TheVariants.{Passed, Refused}
+use Rattle.numbers.specs.Chain.{Verdict}
+use Rattle.numbers.specs.Chain.{Passed, Refused}
 use Rattle.numbers.specs.Numbers.{ACCEPTED, SLOT_MISSED, LENGTHS_EXHAUSTED}
 use Rattle.placement.specs.Placement.{Place, placement}
-use Rattle.records.proofs.ReadLaws.{RequestRange, read_in_range, refused_in_range}
+use Rattle.records.proofs.ReadLaws.{RequestRange, requested_in_range, refused_in_range}
 use Rattle.records.specs.Answer.{answer_record}
 use Rattle.records.specs.declared.Request.{Request}
-use Rattle.records.specs.Request.{read_request}
+use Rattle.records.specs.Request.{read_request, requested}
 use Rattle.slots.specs.Limits.{AREA, IDS, LONGEST}
 use Rattle.timetable.proofs.InForce.{Continues}
 use Rattle.timetable.proofs.Sound.{Sound, sound_from}
@@ -46,9 +47,9 @@ pub record Admitted (t : Timetable) (r : Request) (area : ℕ) : Type 0 where
   pub later : t.base.0 ≤ r.slot.0
   pub fine : (i : ℕ) → i < IDS → Behind (entry_of (start_entries t r.slot r.asks) i) → ⊥
 
-pub admitted : (t : Timetable) (s : List ℕ) (area : ℕ) → StagesSay t (read_request s) area Passed → Admitted t (read_request s).request area
+pub admitted : (t : Timetable) (s : List ℕ) (area : ℕ) → StagesSay t (read_request s) area Passed → Admitted t (requested (read_request s)) area
 admitted t s area (passed _ (passed _ (sound a) (passed _ (enough b) (passed _ (whole c) (in_time d)))) (passed _ (fits f) (keep_up g))) =
-    record { sound = sound_from t a; room = b; range = read_in_range s c; later = d; fine = g }
+    record { sound = sound_from t a; room = b; range = requested_in_range s c; later = d; fine = g }
 
 -- The plan from which its lengths are searched is fit.
 pub admitted_fit : (t : Timetable) (r : Request) (area : ℕ) → Admitted t r area → Fit 0 (start_plan t r)
@@ -74,24 +75,24 @@ record_none a n = rw (ne_eqb _ _ n)
 -- What the request bytes s get.
 pub data Gets (t : Timetable) (s : List ℕ) (area : ℕ) : Answer → Type 0 where
   refused : (r : Refusal) → verdict_before t (read_request s) area ≡ Refused r → 0 < r.number → r.number < SLOT_MISSED → Gets t s area (refuse t r)
-  accepted : verdict_before t (read_request s) area ≡ Passed → Admitted t (read_request s).request area
-      → (k : ℕ) → k ≤ (read_request s).request.limit → PassedFirst k 0 (start_plan t (read_request s).request)
-      → (p : Plan) → reach (start_plan t (read_request s).request) k ≡ some p → (ps : List Place) → placement p.entries ≡ some ps
-      → Gets t s area (accepted_as t (read_request s).request k (placed p ps))
-  no_slot : verdict_before t (read_request s) area ≡ Passed → Admitted t (read_request s).request area
-      → (k : ℕ) → k < (read_request s).request.limit → PassedFirst (suc k) 0 (start_plan t (read_request s).request)
-      → (p : Plan) → reach (start_plan t (read_request s).request) k ≡ some p → longer k p ≡ none → Gets t s area (refused_as t SLOT_MISSED k)
-  no_length : verdict_before t (read_request s) area ≡ Passed → Admitted t (read_request s).request area
-      → PassedFirst (suc (read_request s).request.limit) 0 (start_plan t (read_request s).request)
-      → Gets t s area (refused_as t LENGTHS_EXHAUSTED (read_request s).request.limit)
+  accepted : verdict_before t (read_request s) area ≡ Passed → Admitted t (requested (read_request s)) area
+      → (k : ℕ) → k ≤ (requested (read_request s)).limit → PassedFirst k 0 (start_plan t (requested (read_request s)))
+      → (p : Plan) → reach (start_plan t (requested (read_request s))) k ≡ some p → (ps : List Place) → placement p.entries ≡ some ps
+      → Gets t s area (accepted_as t (requested (read_request s)) k (placed p ps))
+  no_slot : verdict_before t (read_request s) area ≡ Passed → Admitted t (requested (read_request s)) area
+      → (k : ℕ) → k < (requested (read_request s)).limit → PassedFirst (suc k) 0 (start_plan t (requested (read_request s)))
+      → (p : Plan) → reach (start_plan t (requested (read_request s))) k ≡ some p → longer k p ≡ none → Gets t s area (refused_as t SLOT_MISSED k)
+  no_length : verdict_before t (read_request s) area ≡ Passed → Admitted t (requested (read_request s)) area
+      → PassedFirst (suc (requested (read_request s)).limit) 0 (start_plan t (requested (read_request s)))
+      → Gets t s area (refused_as t LENGTHS_EXHAUSTED (requested (read_request s)).limit)
 
 module _ (t : Timetable) (s : List ℕ) (area : ℕ) where
   r : Request
-  r = (read_request s).request
+  r = requested (read_request s)
 
   -- What the search gives, past the stages.
-  searched : verdict_before t (read_request s) area ≡ Passed → Admitted t (read_request s).request area
-      → (x : Searched) → Ended r.limit 0 (start_plan t r) x → Gets t s area (answer_of t (read_request s).request x)
+  searched : verdict_before t (read_request s) area ≡ Passed → Admitted t (requested (read_request s)) area
+      → (x : Searched) → Ended r.limit 0 (start_plan t r) x → Gets t s area (answer_of t (requested (read_request s)) x)
   unfolding r answer_of number_of place_of timetable_of placed
   searched e p x (found k l b q h ps f i) = rw (i, zero-add k) (accepted e p k l b q h ps f)
   searched e p x (missed k l b q h f i) = rw (i, zero-add k) (no_slot e p k l b q h (rw zero-add at f))
@@ -116,10 +117,10 @@ module _ (t : Timetable) (s : List ℕ) (area : ℕ) where
   gets = at (verdict_before t (read_request s) area) refl
     where
       at : (v : Verdict) → verdict_before t (read_request s) area ≡ v → Gets t s area (answer t s area)
-      at (Refused x) e = let k = refusal_number x (said (Refused x) e) in rw (e, answer_to) (refused x e k.0 k.1)
-      at Passed e =
+      at (Err x) e = let k = refusal_number x (said (Refused x) e) in rw (e, answer_to) (refused x e k.0 k.1)
+      at (Ok u) e =
           rw (e, answer_to)
-          (searched e (admitted t s area (said Passed e)) _ (search_ends (read_request s).request.limit 0 (start_plan t (read_request s).request)))
+          (searched e (admitted t s area (said Passed e)) _ (search_ends (requested (read_request s)).limit 0 (start_plan t (requested (read_request s)))))
 
   -- What a new timetable has, at the length found and with the plan placed, that of an accepted request has.
   accepted_has : (P : Timetable → Type 0)

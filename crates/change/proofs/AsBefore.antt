@@ -9,6 +9,8 @@ use mathlib.Core.Path.{◌≡◌, refl, sym, ap, ◌∙◌, subst}
 use native.Mathlib.Decide.{ℕ_discrete}
 use native.Mathlib.Omega.{arith}
 use Prim.Native.Nat.{ℕ, ◌-◌, ◌*◌, ◌≤◌, ◌<◌}
+use Rattle.std.specs.Prelude.{Ok}
+use Rattle.records.specs.declared.Request.{Request}
 use Rattle.change.proofs.Alike.{alike, same_slot}
 use Rattle.change.proofs.GivenLaws.{asks_bound}
 use Rattle.change.proofs.OneGiven.{bound_one}
@@ -20,12 +22,11 @@ use Rattle.change.specs.Refused.{Behind, StagesSay, bad_field, behind, in_time, 
 use Rattle.change.specs.Stages.{asked_bound, entering, stage_early, stage_fields, stages_first, stages_listed, start_entries, verdict_before}
 use Rattle.numbers.specs.Chain.{first_of, passed, refused as stops}
 use Rattle.numbers.specs.declared.Refusal.{Refusal}
-use Rattle.numbers.specs.declared.Verdict.TheVariants.{Refused}
+use Rattle.numbers.specs.Chain.{Refused}
 use Rattle.numbers.specs.Numbers.{BEHIND}
 use Rattle.records.proofs.ReadLaws.{refused_in_range}
 use Rattle.records.specs.declared.Ask.{Ask}
-use Rattle.records.specs.declared.ReadRequest.{ReadRequest}
-use Rattle.records.specs.Request.{ask_of, read_request}
+use Rattle.records.specs.Request.{ask_of, read_request, requested}
 use Rattle.slots.specs.declared.CoreSlot.{CoreSlot}
 use Rattle.slots.specs.Limits.{IDS, LONGEST, WHOLE}
 use Rattle.timetable.proofs.Onward.{kept_after}
@@ -53,48 +54,45 @@ enters_same old n ask full p b = at (ℕ_discrete ask.period 0)
         rw (lt-ltb 0 full.period (omega (arith, p)), lt-ltb 0 ask.period (omega arith))
         (λ j. record { period = p j; offset = 0; bound = f j; shortfall = n })
 
--- What was read, with other asks.
-abbrev pub with_asks : List Ask → ReadRequest → ReadRequest
-with_asks asks read = record {
-  reading = read.reading;
-  request = record { slot = read.request.slot; limit = read.request.limit; asks = asks };
-}
+-- A request, with other asks.
+abbrev pub with_asks : List Ask → Request → Request
+with_asks asks q = record { slot = q.slot; limit = q.limit; asks = asks }
 
-module _ (t : Timetable) (read : ReadRequest) (asks : List Ask)
-    (period : (i : ℕ) → i < IDS → (ask_of asks i).period ≡ (ask_of read.request.asks i).period)
-    (bound : (i : ℕ) → i < IDS → 0 < (ask_of read.request.asks i).period
-    → (0 < (ask_of asks i).bound) × AsksBound (entry_of t.entries i) (ask_of read.request.asks i).bound (ask_of asks i).bound) where
+module _ (t : Timetable) (q : Request) (asks : List Ask)
+    (period : (i : ℕ) → i < IDS → (ask_of asks i).period ≡ (ask_of q.asks i).period)
+    (bound : (i : ℕ) → i < IDS → 0 < (ask_of q.asks i).period
+    → (0 < (ask_of asks i).bound) × AsksBound (entry_of t.entries i) (ask_of q.asks i).bound (ask_of asks i).bound) where
   -- The entries at the request slot are the same.
-  starts_same : start_entries t read.request.slot asks ≡ start_entries t read.request.slot read.request.asks
+  starts_same : start_entries t q.slot asks ≡ start_entries t q.slot q.asks
   starts_same =
-      let slot = read.request.slot in
-      same_entries (start_entries t slot asks) (start_entries t slot read.request.asks) (length_start t slot asks) (length_start t slot read.request.asks)
+      let slot = q.slot in
+      same_entries (start_entries t slot asks) (start_entries t slot q.asks) (length_start t slot asks) (length_start t slot q.asks)
       (λ i k.
       start_at_lem t slot asks i k
-      ∙ enters_same (entry_of t.entries i) (shortfall_at t i slot) (ask_of read.request.asks i) (ask_of asks i) (period i k) (bound i k)
-      ∙ sym (start_at_lem t slot read.request.asks i k))
+      ∙ enters_same (entry_of t.entries i) (shortfall_at t i slot) (ask_of q.asks i) (ask_of asks i) (period i k) (bound i k)
+      ∙ sym (start_at_lem t slot q.asks i k))
 
   -- So what the stages before the search say is the same,
-  verdict_same : (area : ℕ) → verdict_before t (with_asks asks read) area ≡ verdict_before t read area
-  unfolding verdict_before stages_first stage_fields stage_early
-  verdict_same area = ap (λ (es : List Entry). first_of (stages_first t read area ++ stages_listed es)) starts_same
+  verdict_same : (area : ℕ) → verdict_before t (Ok (with_asks asks q)) area ≡ verdict_before t (Ok q) area
+  unfolding verdict_before stages_first stage_fields stage_early requested
+  verdict_same area = ap (λ (es : List Entry). first_of (stages_first t (Ok q) area ++ stages_listed es)) starts_same
 
   -- and the search,
-  plan_same : start_plan t (with_asks asks read).request ≡ start_plan t read.request
+  plan_same : start_plan t (with_asks asks q) ≡ start_plan t q
   unfolding start_plan
   plan_same = ap {B = Plan} (λ (es : List Entry). record { owners = replicate LONGEST 0; entries = es }) starts_same
 
-  search_same : search_of t (with_asks asks read).request ≡ search_of t read.request
+  search_same : search_of t (with_asks asks q) ≡ search_of t q
   unfolding search_of
-  search_same = ap (search_from read.request.limit 0) plan_same
+  search_same = ap (search_from q.limit 0) plan_same
 
   -- and the whole answer.
-  pub in_full_same : (area : ℕ) → answer_to t (with_asks asks read) area ≡ answer_to t read area
+  pub in_full_same : (area : ℕ) → answer_to t (Ok (with_asks asks q)) area ≡ answer_to t (Ok q) area
+  unfolding requested
   in_full_same area =
-      alike t read (with_asks asks read) area (verdict_same area)
+      alike t (Ok q) (Ok (with_asks asks q)) area (verdict_same area)
       (λ _.
-      same_slot t read.request (with_asks asks read).request refl plan_same (search_of t (with_asks asks read).request)
-      ∙ ap (answer_of t read.request) search_same)
+      same_slot t q (with_asks asks q) refl plan_same (search_of t (with_asks asks q)) ∙ ap (answer_of t q) search_same)
 
 -- ---- refusal 8
 
@@ -122,17 +120,17 @@ short_behind t s slot later asks i k short b = at (is_listed old) refl
 
 -- So 8 names an id whose field gives its R, or one that returns with a debt of a whole slot or more.
 pub behind_named : (t : Timetable) (s : List ℕ) (area : ℕ) (x : Refusal) → StagesSay t (read_request s) area (Refused x) → x.number ≡ BEHIND
-    → (0 < (ask_of (read_request s).request.asks x.place).bound)
-    ⊎ ((lists t x.place ≡ false) × (WHOLE ≤ shortfall_at t x.place (read_request s).request.slot))
+    → (0 < (ask_of (requested (read_request s)).asks x.place).bound)
+    ⊎ ((lists t x.place ≡ false) × (WHOLE ≤ shortfall_at t x.place (requested (read_request s)).slot))
 behind_named t s area x (stops _ (stops _ (not_sound a))) e = absurd (omega arith)
 behind_named t s area x (stops _ (passed _ _ (stops _ (small_area a)))) e = absurd (omega arith)
 behind_named t s area x (stops _ (passed _ _ (passed _ _ (stops _ (bad_field q f))))) e = absurd (omega (arith, (refused_in_range s q f).high))
 behind_named t s area x (stops _ (passed _ _ (passed _ _ (passed _ _ (too_early a))))) e = absurd (omega arith)
 behind_named t s area x (passed _ _ (stops _ (overfull i k f g))) e = absurd (omega arith)
 behind_named t s area x (passed _ (passed _ (sound z) (passed _ _ (passed _ _ (in_time l)))) (passed _ _ (behind i k b f))) e =
-    at (ℕ_discrete (ask_of (read_request s).request.asks i).bound 0)
+    at (ℕ_discrete (ask_of (requested (read_request s)).asks i).bound 0)
   where
-    at : Dec ((ask_of (read_request s).request.asks i).bound ≡ 0)
-        → (0 < (ask_of (read_request s).request.asks i).bound) ⊎ ((lists t i ≡ false) × (WHOLE ≤ shortfall_at t i (read_request s).request.slot))
-    at (yes y) = inr (short_behind t (sound_from t z) (read_request s).request.slot l (read_request s).request.asks i k y b)
+    at : Dec ((ask_of (requested (read_request s)).asks i).bound ≡ 0)
+        → (0 < (ask_of (requested (read_request s)).asks i).bound) ⊎ ((lists t i ≡ false) × (WHOLE ≤ shortfall_at t i (requested (read_request s)).slot))
+    at (yes y) = inr (short_behind t (sound_from t z) (requested (read_request s)).slot l (requested (read_request s)).asks i k y b)
     at (no y) = inl (omega arith)

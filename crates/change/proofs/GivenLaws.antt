@@ -16,7 +16,7 @@ use Rattle.change.specs.Change.{answer, area_after, outcome, outcome_of, record_
 use Rattle.change.specs.declared.Answer.{Answer}
 use Rattle.change.specs.Given.{AsksBound, in_full, as_listed, not_listed, Enters, AtRequest, ByRules, EndsAt, missed, exhausted, Wanting, Gives, early, schedule, wanting}
 use Rattle.change.specs.Stages.{asked_bound, entering, start_entries}
-use Rattle.numbers.specs.declared.Verdict.TheVariants.{Passed, Refused}
+use Rattle.numbers.specs.Chain.{Passed, Refused}
 use Rattle.numbers.specs.Numbers.{SLOT_MISSED, LENGTHS_EXHAUSTED}
 use Rattle.placement.proofs.Complete.{placement_none, settle_kept, settle_unlisted}
 use Rattle.placement.proofs.RuleFourLaws.{rule_four_is}
@@ -28,7 +28,7 @@ use Rattle.records.proofs.AnswerPlaces.{answer_stands}
 use Rattle.records.proofs.ReadSteps.{request_read}
 use Rattle.records.specs.declared.Ask.{Ask}
 use Rattle.records.specs.declared.Request.{Request}
-use Rattle.records.specs.Request.{ask_of, read_request}
+use Rattle.records.specs.Request.{ask_of, read_request, requested}
 use Rattle.slots.specs.Limits.{IDS, LONGEST}
 use Rattle.timetable.specs.declared.Entry.{Entry}
 use Rattle.timetable.specs.declared.Timetable.{Timetable}
@@ -166,22 +166,22 @@ gives t s area = at (answer t s (length area)) (gets t s (length area))
         let small : k ≤ LONGEST = omega (arith, p.range.limit) in
         schedule (read_request s) (request_read s) (said t s (length area) Passed e) (outcome_of a) (written a area)
         (record {
-          start = (start_plan t (read_request s).request).entries;
-          starts = at_request t (read_request s).request;
-          rules = by_rules t (read_request s).request (length area) p k small x h ps f l b;
+          start = (start_plan t (requested (read_request s))).entries;
+          starts = at_request t (requested (read_request s));
+          rules = by_rules t (requested (read_request s)) (length area) p k small x h ps f l b;
           number = refl;
           place = refl;
           tries = refl;
           answer =
               answer_stands k x.owners (placed x ps).entries area small
-              (omega (arith, (fit_here t (read_request s).request (length area) p k small x h).places))
+              (omega (arith, (fit_here t (requested (read_request s)) (length area) p k small x h).places))
               p.room;
         })
     at a (no_slot e p k l b x h f) =
         wanting (read_request s) (request_read s) (said t s (length area) Passed e) k SLOT_MISSED
-        (want_missed t (read_request s).request (length area) p k (omega (arith, p.range.limit)) b x h l f)
+        (want_missed t (requested (read_request s)) (length area) p k (omega (arith, p.range.limit)) b x h l f)
     at a (no_length e p b) =
-        let n : ℕ = (read_request s).request.limit in
+        let n : ℕ = (requested (read_request s)).limit in
         let w = b n (omega arith) in
         wanting (read_request s) (request_read s) (said t s (length area) Passed e) n LENGTHS_EXHAUSTED
-        (want t (read_request s).request (length area) p n (omega (arith, p.range.limit)) b w.0 w.1 LENGTHS_EXHAUSTED (exhausted refl))
+        (want t (requested (read_request s)) (length area) p n (omega (arith, p.range.limit)) b w.0 w.1 LENGTHS_EXHAUSTED (exhausted refl))

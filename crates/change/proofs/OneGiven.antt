@@ -23,13 +23,12 @@ use Rattle.placement.specs.RuleFour.{ByRuleFour}
 use Rattle.records.proofs.AnswerPlaces.{answer_one}
 use Rattle.records.proofs.ReadSteps.{as_read}
 use Rattle.records.specs.AnswerForm.{AnswerStands}
-use Rattle.records.specs.declared.ReadRequest.{ReadRequest}
 use Rattle.numbers.specs.declared.Refusal.{Refusal}
-use Rattle.numbers.specs.declared.Verdict.{Verdict}
-use Rattle.numbers.specs.declared.Verdict.TheVariants.{Passed, Refused}
+use Rattle.numbers.specs.Chain.{Verdict}
+use Rattle.numbers.specs.Chain.{Passed, Refused}
 use Rattle.records.specs.declared.Request.{Request}
 use Rattle.records.specs.Reads.{RequestRead}
-use Rattle.records.specs.Request.{ask_of, read_request}
+use Rattle.records.specs.Request.{ask_of, read_request, ReadRequest, requested}
 use Rattle.slots.proofs.Below.{true_false}
 use Rattle.slots.specs.Limits.{IDS}
 use Rattle.timetable.proofs.Sound.{Ranged}
@@ -248,7 +247,7 @@ module _ (t : Timetable) (s area : List ℕ) where
   not_early x a b d e p q = not_passed x (sym (judged Passed b e q) ∙ judged (Refused x) a d p)
 
   -- A request that is searched is in range, and nobody in it is behind.
-  passes : (read : ReadRequest) → RequestRead s read → StagesSay t read (length area) Passed → Admitted t (read_request s).request (length area)
+  passes : (read : ReadRequest) → RequestRead s read → StagesSay t read (length area) Passed → Admitted t (requested (read_request s)) (length area)
   passes read e p = admitted t s (length area) (as_read (λ y. StagesSay t y (length area) Passed) s read e p)
 
   -- The rules leave one outcome and one content of the area.
@@ -263,26 +262,26 @@ module _ (t : Timetable) (s area : List ℕ) where
   gives_one r r' out out' (schedule a d p u v w) (early b e y q) = absurd (not_early y b a e d q p)
   gives_one r r' out out' (schedule a d p u v w) (schedule b e q u' v' w') =
       let g = passes a d p in
-      accepted_one t (read_request s).request (length area) g area u u' v v'
-      (as_read (λ y. Accepted t y.request area u v) s a d w)
-      (as_read (λ y. Accepted t y.request area u' v') s b e w')
+      accepted_one t (requested (read_request s)) (length area) g area u u' v v'
+      (as_read (λ y. Accepted t (requested y) area u v) s a d w)
+      (as_read (λ y. Accepted t (requested y) area u' v') s b e w')
   gives_one r r' out out' (schedule a d p u v w) (wanting b e q n k x) =
       let g = passes a d p in
       absurd
-      (not_wanting t (read_request s).request (length area) g area u v n k
-      (as_read (λ y. Accepted t y.request area u v) s a d w)
-      (as_read (λ y. Wanting t y.request n k) s b e x))
+      (not_wanting t (requested (read_request s)) (length area) g area u v n k
+      (as_read (λ y. Accepted t (requested y) area u v) s a d w)
+      (as_read (λ y. Wanting t (requested y) n k) s b e x))
   gives_one r r' out out' (wanting a d p n k x) (early b e y q) = absurd (not_early y b a e d q p)
   gives_one r r' out out' (wanting a d p n k x) (schedule b e q u v w) =
       let g = passes a d p in
       absurd
-      (not_wanting t (read_request s).request (length area) g area u v n k
-      (as_read (λ y. Accepted t y.request area u v) s b e w)
-      (as_read (λ y. Wanting t y.request n k) s a d x))
+      (not_wanting t (requested (read_request s)) (length area) g area u v n k
+      (as_read (λ y. Accepted t (requested y) area u v) s b e w)
+      (as_read (λ y. Wanting t (requested y) n k) s a d x))
   gives_one r r' out out' (wanting a d p n k x) (wanting b e q m l y) =
       let g = passes a d p in
-      let i = as_read (λ z. Wanting t z.request n k) s a d x in
-      let j = as_read (λ z. Wanting t z.request m l) s b e y in
-      let z = wanting_one t (read_request s).request (length area) g n k m l i j in
-      let w = number_one (read_request s).request.limit n m _ _ k l z i.ends j.ends in
+      let i = as_read (λ z. Wanting t (requested z) n k) s a d x in
+      let j = as_read (λ z. Wanting t (requested z) m l) s b e y in
+      let z = wanting_one t (requested (read_request s)) (length area) g n k m l i j in
+      let w = number_one (requested (read_request s)).limit n m _ _ k l z i.ends j.ends in
       (ap₂ (λ (number n : ℕ). refused_with t number n (suc n)) w z, refl)

@@ -6,6 +6,7 @@ use mathlib.Core.Option.{Option, none, some}
 use mathlib.Core.Path.{◌≡◌, refl, sym, ap, ◌∙◌, subst}
 use native.Mathlib.Omega.{arith}
 use Prim.Native.Nat.{ℕ, zero, suc, ◌+◌, ◌-◌, ◌*◌, ◌≤◌, ◌<◌}
+use Rattle.std.specs.Prelude.{IsOk, Ok, Err}
 use Rattle.change.proofs.Answers.{accepted_as, admitted, admitted_fit}
 use Rattle.change.proofs.AsBefore.{short_behind}
 use Rattle.change.proofs.GivenLaws.{at_request}
@@ -15,16 +16,15 @@ use Rattle.change.specs.Change.{answer, answer_of, answer_to, number_of, place_o
 use Rattle.change.specs.Refused.{Behind, StagesSay, enough, fits, in_time, keep_up, sound, whole}
 use Rattle.change.specs.Stages.{asked_bound, bound_before, entering, start_entries, verdict_before, weight_sum}
 use Rattle.numbers.specs.Chain.{passed}
-use Rattle.numbers.specs.declared.Verdict.{Verdict}
-use Rattle.numbers.specs.declared.Verdict.TheVariants.{Passed, Refused}
+use Rattle.numbers.specs.Chain.{Verdict}
+use Rattle.numbers.specs.Chain.{Passed}
 use Rattle.numbers.specs.Numbers.{ACCEPTED}
 use Rattle.placement.proofs.Complete.{placement_none, settle_entry, settle_unlisted}
 use Rattle.placement.specs.Any.{CyclicPlacement, Lists, chosen}
 use Rattle.placement.specs.Placement.{Place, placement, settle}
 use Rattle.records.specs.declared.Ask.{Ask}
-use Rattle.records.specs.declared.Reading.TheVariants.{Whole}
 use Rattle.records.specs.declared.Request.{Request}
-use Rattle.records.specs.Request.{ask_of, read_request}
+use Rattle.records.specs.Request.{ask_of, read_request, requested}
 use Rattle.slots.proofs.Below.{true_false}
 use Rattle.slots.specs.Limits.{AREA, IDS, WHOLE}
 use Rattle.timetable.proofs.EntryLaws.{weight_none}
@@ -117,12 +117,12 @@ module _ (t : Timetable) (s : Sound t) (q : Request) (later : t.base.0 ≤ q.slo
   not_over : (i : ℕ) → i < IDS → weight_sum es (suc i) ≤ WHOLE
   not_over i k = omega (arith, weights (suc i) (omega arith), slices_fit t.entries s.apart (suc i) WHOLE (omega arith))
 
-module _ (t : Timetable) (s : List ℕ) (area : ℕ) (z : is_sound t ≡ true) (size : AREA ≤ area) (read : (read_request s).reading ≡ Whole)
-    (later : t.base.0 ≤ (read_request s).request.slot.0)
-    (same : (i : ℕ) → i < IDS → ask_of (read_request s).request.asks i ≡ as_there (entry_of t.entries i)) where
+module _ (t : Timetable) (s : List ℕ) (area : ℕ) (z : is_sound t ≡ true) (size : AREA ≤ area) (read : IsOk (read_request s))
+    (later : t.base.0 ≤ (requested (read_request s)).slot.0)
+    (same : (i : ℕ) → i < IDS → ask_of (requested (read_request s)).asks i ≡ as_there (entry_of t.entries i)) where
   -- What is asked.
   abbrev asked : Request
-  asked = (read_request s).request
+  asked = requested (read_request s)
 
   -- It passes the stages before the search.
   there_passes : StagesSay t (read_request s) area Passed
@@ -153,7 +153,7 @@ module _ (t : Timetable) (s : List ℕ) (area : ℕ) (z : is_sound t ≡ true) (
     there_answer : answer t s area ≡ accepted_as t asked 0 (placed (start_plan t asked) ps)
     unfolding answer answer_to search_of answer_of number_of place_of timetable_of ended
     there_answer =
-        ap (λ (v : Verdict). elim v [ Passed ↦ answer_of t asked (search_of t asked) | Refused r ↦ refuse t r ]) there_verdict
+        ap (λ (v : Verdict). elim v [ Ok _ ↦ answer_of t asked (search_of t asked) | Err r ↦ refuse t r ]) there_verdict
         ∙ ap (answer_of t asked) (search_found 0 (start_plan t asked) asked.limit ps rule4)
 
     -- and each id keeps its period and its R.

@@ -6,6 +6,7 @@ use mathlib.Core.Path.{◌≡◌, refl, sym, ap, ◌∙◌, subst}
 use native.Mathlib.Decide.{ℕ_discrete}
 use native.Mathlib.Omega.{arith}
 use Prim.Native.Nat.{ℕ, ◌≤◌, ◌<◌}
+use Rattle.std.specs.Prelude.{IsOk, Ok, Err}
 use Rattle.change.proofs.Answers.{Admitted, accepted_continues, admitted, admitted_fit, Gets, refused, accepted, no_slot, no_length, gets, refusal_number, said}
 use Rattle.change.proofs.Stages.{first_tells}
 use Rattle.change.specs.Change.{start_plan, search_of, answer_of, refuse, answer_to, answer}
@@ -17,14 +18,12 @@ use Rattle.numbers.specs.Chain.{first_of, passed}
 use Rattle.numbers.specs.Chain as chain
 use Rattle.numbers.specs.declared.Refusal.{Refusal}
 use Rattle.numbers.specs.Numbers.{ACCEPTED, NOT_SOUND, refusal}
-use Rattle.numbers.specs.declared.Verdict.{Verdict}
-use Rattle.numbers.specs.declared.Verdict.TheVariants.{Passed, Refused}
-use Rattle.records.proofs.ReadLaws.{read_in_range}
-use Rattle.records.specs.declared.Reading.TheVariants.{Whole}
-use Rattle.records.specs.declared.ReadRequest.{ReadRequest}
+use Rattle.numbers.specs.Chain.{Verdict}
+use Rattle.numbers.specs.Chain.{Passed, Refused}
+use Rattle.records.proofs.ReadLaws.{requested_in_range}
 use Rattle.records.specs.declared.Request.{Request}
 use Rattle.records.specs.Reads.{RequestRange}
-use Rattle.records.specs.Request.{read_request}
+use Rattle.records.specs.Request.{read_request, ReadRequest, requested}
 use Rattle.slots.specs.Limits.{AREA, LONGEST}
 use Rattle.timetable.proofs.Sound.{ranged_is, sound_is}
 use Rattle.timetable.specs.declared.Timetable.{Timetable}
@@ -100,16 +99,16 @@ stays_sound t s area h = at (ℕ_discrete (answer t s area).number ACCEPTED)
 
 -- What passes the first stages has a sound timetable, is read whole, and has a slot that is not too early.
 pub first_passes : (t : Timetable) (read : ReadRequest) (area : ℕ) → first_of (stages_first t read area) ≡ Passed
-    → (is_sound t ≡ true) × (read.reading ≡ Whole) × (t.base.0 ≤ read.request.slot.0)
+    → (is_sound t ≡ true) × (IsOk read) × (t.base.0 ≤ (requested read).slot.0)
 first_passes t read area e = at (subst (FirstStages t read area) e (first_tells t read area).holds)
   where
-    at : FirstStages t read area Passed → (is_sound t ≡ true) × (read.reading ≡ Whole) × (t.base.0 ≤ read.request.slot.0)
+    at : FirstStages t read area Passed → (is_sound t ≡ true) × (IsOk read) × (t.base.0 ≤ (requested read).slot.0)
     at (passed _ (sound a) (passed _ (enough b) (passed _ (whole c) (in_time d)))) = (a, c, d)
 
 module _ (t : Timetable) (s : List ℕ) (area : ℕ) where
   -- The answer, were this the verdict.
   given : Verdict → Answer
-  given v = elim v [ Passed ↦ answer_of t (read_request s).request (search_of t (read_request s).request) | Refused r ↦ refuse t r ]
+  given v = elim v [ Ok _ ↦ answer_of t (requested (read_request s)) (search_of t (requested (read_request s))) | Err r ↦ refuse t r ]
 
   answer_given : (v : Verdict) → verdict_before t (read_request s) area ≡ v → answer t s area ≡ given v
   unfolding answer answer_to given
@@ -133,10 +132,10 @@ module _ (t : Timetable) (s : List ℕ) (area : ℕ) where
   first_number r e = refused_number r (split_refused (stages_first t (read_request s) area) _ r e)
 
   -- What passes them is in range.
-  pub first_range : first_of (stages_first t (read_request s) area) ≡ Passed → RequestRange (read_request s).request
-  first_range e = read_in_range s (first_passes t (read_request s) area e).1
+  pub first_range : first_of (stages_first t (read_request s) area) ≡ Passed → RequestRange (requested (read_request s))
+  first_range e = requested_in_range s (first_passes t (read_request s) area e).1
 
-  module _ (e : first_of (stages_first t (read_request s) area) ≡ Passed) (plan : Plan) (p : plan ≡ start_plan t (read_request s).request) where
+  module _ (e : first_of (stages_first t (read_request s) area) ≡ Passed) (plan : Plan) (p : plan ≡ start_plan t (requested (read_request s))) where
     -- What passes them is judged by the stages after them.
     listed_next : verdict_before t (read_request s) area ≡ first_of (stages_listed plan.entries)
     unfolding verdict_before start_plan
@@ -150,14 +149,14 @@ module _ (t : Timetable) (s : List ℕ) (area : ℕ) where
     listed_number r f = refused_number r (listed_next ∙ f)
 
     module _ (f : first_of (stages_listed plan.entries) ≡ Passed) where
-      pub answer_searched : answer t s area ≡ answer_of t (read_request s).request (search_of t (read_request s).request)
+      pub answer_searched : answer t s area ≡ answer_of t (requested (read_request s)) (search_of t (requested (read_request s)))
       unfolding given
       answer_searched = answer_given Passed (listed_next ∙ f)
 
-      pub passes : Admitted t (read_request s).request area
+      pub passes : Admitted t (requested (read_request s)) area
       passes = admitted t s area (said t s area Passed (listed_next ∙ f))
 
       pub ready_plan : Ready plan
       ready_plan =
-          let fit = admitted_fit t (read_request s).request area passes in
-          subst Ready (sym p) (record { ranged = ranged_is (start_plan t (read_request s).request).entries fit.ranged; unplaced = fit.unplaced })
+          let fit = admitted_fit t (requested (read_request s)) area passes in
+          subst Ready (sym p) (record { ranged = ranged_is (start_plan t (requested (read_request s))).entries fit.ranged; unplaced = fit.unplaced })

@@ -14,7 +14,7 @@ use Rattle.std.specs.List.{AllWithin, HoldsAt}
 use Prim.Native.Nat.{ℕ, suc, ◌+◌, ◌*◌, ◌≤◌, ◌<◌}
 use Rattle.change.specs.Stages.{asked_bound, bound_before, entering, weight_sum, overfull, is_behind, behind, stage_overfull, stage_behind}
 use Rattle.numbers.specs.Chain.{refused_at}
-use Rattle.numbers.specs.declared.Verdict.TheVariants.{Passed, Refused}
+use Rattle.numbers.specs.Chain.{Passed, Refused}
 use Rattle.numbers.specs.Numbers.{OVERFULL, BEHIND, refusal}
 use Rattle.records.specs.declared.Ask.{Ask}
 use Rattle.slots.proofs.Below.{none_first, some_first}

@@ -8,18 +8,18 @@ use mathlib.Core.Path.{◌≡◌, refl, ap, ap₂}
 use native.Mathlib.Decide.{dec_lt}
 use native.Mathlib.Omega.{arith}
 use Prim.Native.Nat.{ℕ, suc, ◌*◌, ◌<◌}
+use Rattle.std.specs.Prelude.{Ok, Err, is_ok}
+use Rattle.records.proofs.ReadSteps.{read_requested}
+use Rattle.records.specs.Request.{ReadRequest, requested}
 use Rattle.change.specs.Refused.{SoundStage, not_sound, sound, AreaStage, small_area, enough, FieldStage, bad_field, whole, EarlyStage, too_early, in_time}
 use Rattle.change.specs.Refused.{WeightStage, overfull, fits, Behind, BehindStage, behind, keep_up, FirstStages, ListedStages, StagesSay}
 use Rattle.change.specs.Stages as Stages
 use Rattle.change.specs.Stages.{start_entries, weight_sum, is_behind, stage_sound, stage_area, stage_fields, stage_early, stage_overfull, stage_behind, stages_first, stages_listed, verdict_before}
 use Rattle.numbers.proofs.ChainLaws.{Tells, tells_from, stage_tells, last_tells, chains_tell}
 use Rattle.numbers.specs.Chain.{refused_at, first_of}
-use Rattle.numbers.specs.declared.Verdict.{Verdict}
-use Rattle.numbers.specs.declared.Verdict.TheVariants.{Passed, Refused}
+use Rattle.numbers.specs.Chain.{Verdict}
+use Rattle.numbers.specs.Chain.{Passed, Refused}
 use Rattle.numbers.specs.Numbers.{NOT_SOUND, SMALL_AREA, TOO_EARLY, OVERFULL, BEHIND, refusal}
-use Rattle.records.specs.declared.Reading.{Reading}
-use Rattle.records.specs.declared.Reading.TheVariants.{Whole, Refused as unread}
-use Rattle.records.specs.declared.ReadRequest.{ReadRequest}
 use Rattle.records.specs.declared.Request.{Request}
 use Rattle.slots.proofs.Below.{and_both, first_none, first_some, none_first, some_first, true_false}
 use Rattle.slots.specs.Limits.{IDS, WHOLE, AREA}
@@ -62,14 +62,14 @@ module _ (read : ReadRequest) where
   fields_is : (v : Verdict) → FieldStage read v → stage_fields read ≡ v
   unfolding stage_fields
   fields_is v (bad_field r e) = rw e
-  fields_is v (whole e) = rw e
+  fields_is v (whole e) = rw (read_requested read e)
 
   fields_tell : Tells (FieldStage read) (stage_fields read)
-  fields_tell = tells_from (FieldStage read) (stage_fields read) fields_is (at read.reading refl)
+  fields_tell = tells_from (FieldStage read) (stage_fields read) fields_is (at read refl)
     where
-      at : (x : Reading) → read.reading ≡ x → (v : Verdict) × FieldStage read v
-      at Whole e = (Passed, whole e)
-      at (unread r) e = (Refused r, bad_field r e)
+      at : (x : ReadRequest) → read ≡ x → (v : Verdict) × FieldStage read v
+      at (Ok q) e = (Passed, whole (ap (λ (y : ReadRequest). is_ok y) e))
+      at (Err r) e = (Refused r, bad_field r e)
 
 module _ (t : Timetable) (q : Request) where
   -- 6
@@ -148,7 +148,7 @@ pub first_tells : (t : Timetable) (read : ReadRequest) (area : ℕ) → Tells (F
 unfolding stages_first
 first_tells t read area =
     stage_tells _ _ _ _ (sound_tells t)
-    (stage_tells _ _ _ _ (area_tells area) (stage_tells _ _ _ _ (fields_tell read) (last_tells _ _ (early_tells t read.request))))
+    (stage_tells _ _ _ _ (area_tells area) (stage_tells _ _ _ _ (fields_tell read) (last_tells _ _ (early_tells t (requested read)))))
 
 -- The stages after them.
 listed_tells : (es : List Entry) → Tells (ListedStages es) (first_of (stages_listed es))
@@ -158,4 +158,4 @@ listed_tells es = stage_tells _ _ _ _ (weights_tell es) (last_tells _ _ (behind_
 -- What a request gets before the search is what the stages say.
 pub stages : (t : Timetable) (read : ReadRequest) (area : ℕ) → Tells (StagesSay t read area) (verdict_before t read area)
 unfolding verdict_before
-stages t read area = chains_tell _ _ _ _ (first_tells t read area) (listed_tells (start_entries t read.request.slot read.request.asks))
+stages t read area = chains_tell _ _ _ _ (first_tells t read area) (listed_tells (start_entries t (requested read).slot (requested read).asks))

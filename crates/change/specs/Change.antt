@@ -1,16 +1,14 @@
 -- docs/RULES.md 4, 7.1, 7.4 and 7.5: the whole outcome of a request.
-use Rattle.std.specs.Prelude.{eqb, length, replicate, cond, List, [], map, ℕ, ◌+◌}
+use Rattle.std.specs.Prelude.{eqb, length, replicate, cond, List, [], map, ℕ, ◌+◌, Ok, Err}
 use Rattle.std.proofs.lemmas.List.Edits.{sets}
 use Rattle.change.specs.declared.Answer.{Answer}
 use Rattle.change.specs.declared.Outcome.{Outcome}
 use Rattle.change.specs.Stages.{start_entries, verdict_before}
 use Rattle.numbers.specs.declared.Refusal.{Refusal}
-use Rattle.numbers.specs.declared.Verdict.TheVariants.{Passed, Refused}
 use Rattle.numbers.specs.Numbers.{ACCEPTED, SLOT_MISSED, LENGTHS_EXHAUSTED}
 use Rattle.records.specs.Answer.{answer_record}
-use Rattle.records.specs.declared.ReadRequest.{ReadRequest}
 use Rattle.records.specs.declared.Request.{Request}
-use Rattle.records.specs.Request.{read_request}
+use Rattle.records.specs.Request.{read_request, ReadRequest, requested}
 use Rattle.slots.specs.Clocks.{core_slot}
 use Rattle.slots.specs.Limits.{LONGEST}
 use Rattle.timetable.specs.declared.Entry.{Entry}
@@ -82,7 +80,7 @@ refuse t r = record { number = r.number; place = r.place; tries = 0; timetable =
 -- The answer to a request, as it was read, with an answer area of a given size: the stages before, then the search.
 unfoldable pub answer_to : Timetable → ReadRequest → ℕ → Answer
 answer_to t read area =
-    elim (verdict_before t read area) [ Passed ↦ answer_of t read.request (search_of t read.request) | Refused r ↦ refuse t r ]
+    elim (verdict_before t read area) [ Ok _ ↦ answer_of t (requested read) (search_of t (requested read)) | Err r ↦ refuse t r ]
 
 -- The answer to the bytes s of a request. It is decided before any byte is written.
 unfoldable pub answer : Timetable → List ℕ → ℕ → Answer

@@ -5,13 +5,12 @@ use Rattle.change.specs.Refused.{StagesSay}
 use Rattle.placement.specs.Any.{NoPlacement}
 use Rattle.placement.specs.RuleFour.{ByRuleFour}
 use Rattle.records.specs.AnswerForm.{AnswerStands}
-use Rattle.records.specs.declared.ReadRequest.{ReadRequest}
 use Rattle.numbers.specs.declared.Refusal.{Refusal}
-use Rattle.numbers.specs.declared.Verdict.TheVariants.{Passed, Refused}
+use Rattle.numbers.specs.Chain.{Passed, Refused}
 use Rattle.records.specs.declared.Request.{Request}
 use Rattle.numbers.specs.Numbers.{ACCEPTED, SLOT_MISSED, LENGTHS_EXHAUSTED}
 use Rattle.records.specs.Reads.{RequestRead}
-use Rattle.records.specs.Request.{ask_of}
+use Rattle.records.specs.Request.{ask_of, ReadRequest, requested}
 use Rattle.slots.specs.Limits.{IDS, LONGEST}
 use Rattle.timetable.specs.declared.Entry.{Entry}
 use Rattle.timetable.specs.declared.Timetable.{Timetable}
@@ -99,7 +98,7 @@ pub data Gives (t : Timetable) (s before : List ℕ) : Outcome → List ℕ → 
       → Gives t s before (refused_with t x.number x.place 0) before
   -- a schedule
   schedule : (read : ReadRequest) → RequestRead s read → StagesSay t read (length before) Passed → (r : Outcome) (after : List ℕ)
-      → Accepted t read.request before r after → Gives t s before r after
+      → Accepted t (requested read) before r after → Gives t s before r after
   -- the refusal for want of a schedule: its place is the length at which they end, with a try for each length passed over
-  wanting : (read : ReadRequest) → RequestRead s read → StagesSay t read (length before) Passed → (n number : ℕ) → Wanting t read.request n number
+  wanting : (read : ReadRequest) → RequestRead s read → StagesSay t read (length before) Passed → (n number : ℕ) → Wanting t (requested read) n number
       → Gives t s before (refused_with t number n (suc n)) before

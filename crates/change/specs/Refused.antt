@@ -1,13 +1,12 @@
 -- docs/RULES.md 7.1 and 7.2: when each number is given before the search, and with which place. The lowest stage wins.
-use Rattle.std.specs.Prelude.{true, false, List, ◌≡◌, ℕ, suc, ◌*◌, ◌≤◌, ◌<◌}
+use Rattle.records.specs.Request.{ReadRequest, requested}
+use Rattle.std.specs.Prelude.{true, false, List, ◌≡◌, ℕ, suc, ◌*◌, ◌≤◌, ◌<◌, IsOk, Err}
 use Rattle.change.specs.Stages.{start_entries, weight_sum}
 use Rattle.numbers.specs.Chain.{Then}
 use Rattle.numbers.specs.declared.Refusal.{Refusal}
-use Rattle.numbers.specs.declared.Verdict.{Verdict}
-use Rattle.numbers.specs.declared.Verdict.TheVariants.{Passed, Refused}
+use Rattle.numbers.specs.Chain.{Verdict}
+use Rattle.numbers.specs.Chain.{Passed, Refused}
 use Rattle.numbers.specs.Numbers.{NOT_SOUND, SMALL_AREA, TOO_EARLY, OVERFULL, BEHIND}
-use Rattle.records.specs.declared.Reading.TheVariants.{Whole, Refused as unread}
-use Rattle.records.specs.declared.ReadRequest.{ReadRequest}
 use Rattle.records.specs.declared.Request.{Request}
 use Rattle.slots.specs.Limits.{IDS, WHOLE, AREA}
 use Rattle.timetable.specs.declared.Entry.{Entry}
@@ -27,8 +26,8 @@ pub data AreaStage (area : ℕ) : Verdict → Type 0 where
 
 -- 3, 4 or 5, with the place of its field: the first field that is refused.
 pub data FieldStage (read : ReadRequest) : Verdict → Type 0 where
-  bad_field : (r : Refusal) → read.reading ≡ unread r → FieldStage read (Refused r)
-  whole : read.reading ≡ Whole → FieldStage read Passed
+  bad_field : (r : Refusal) → read ≡ Err r → FieldStage read (Refused r)
+  whole : IsOk read → FieldStage read Passed
 
 -- 6, place 0: the slot is before the base.
 pub data EarlyStage (t : Timetable) (q : Request) : Verdict → Type 0 where
@@ -53,7 +52,7 @@ pub data BehindStage (es : List Entry) : Verdict → Type 0 where
 
 -- The stages that need no entries, in their order.
 abbrev pub FirstStages : Timetable → ReadRequest → ℕ → Verdict → Type 0
-FirstStages t read area = Then (SoundStage t) (Then (AreaStage area) (Then (FieldStage read) (EarlyStage t read.request)))
+FirstStages t read area = Then (SoundStage t) (Then (AreaStage area) (Then (FieldStage read) (EarlyStage t (requested read))))
 
 -- The stages after them, over the entries at the request slot.
 abbrev pub ListedStages : List Entry → Verdict → Type 0
@@ -61,4 +60,4 @@ ListedStages es = Then (WeightStage es) (BehindStage es)
 
 -- What a request, as it was read, gets before the search.
 abbrev pub StagesSay : Timetable → ReadRequest → ℕ → Verdict → Type 0
-StagesSay t read area = Then (FirstStages t read area) (ListedStages (start_entries t read.request.slot read.request.asks))
+StagesSay t read area = Then (FirstStages t read area) (ListedStages (start_entries t (requested read).slot (requested read).asks))

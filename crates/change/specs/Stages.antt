@@ -1,15 +1,13 @@
 -- docs/RULES.md 4.1, 7.1 and 7.2: the stages before the search, in their order. The lowest stage wins.
-use Rattle.std.specs.Prelude.{eqb, ltb, replicate, Bool, cond, not, ◌&&◌, List, [], ◌∷◌, ◌++◌, ℕ, zero, suc, ◌+◌}
+use Rattle.std.specs.Prelude.{eqb, ltb, replicate, Bool, cond, not, ◌&&◌, List, [], ◌∷◌, ◌++◌, ℕ, zero, suc, ◌+◌, Ok, Err}
 use Rattle.std.proofs.Math.Option.{Option}
 use Rattle.numbers.specs.Chain.{refused_if, refused_at, first_of}
-use Rattle.numbers.specs.declared.Verdict.{Verdict}
-use Rattle.numbers.specs.declared.Verdict.TheVariants.{Passed, Refused}
+use Rattle.numbers.specs.Chain.{Verdict}
+use Rattle.numbers.specs.Chain.{Passed, Refused}
 use Rattle.numbers.specs.Numbers.{NOT_SOUND, SMALL_AREA, TOO_EARLY, OVERFULL, BEHIND}
 use Rattle.records.specs.declared.Ask.{Ask}
-use Rattle.records.specs.declared.Reading.TheVariants.{Whole, Refused as unread}
-use Rattle.records.specs.declared.ReadRequest.{ReadRequest}
 use Rattle.records.specs.declared.Request.{Request}
-use Rattle.records.specs.Request.{ask_of, is_asked}
+use Rattle.records.specs.Request.{ask_of, is_asked, ReadRequest, requested}
 use Rattle.slots.specs.Below.{first}
 use Rattle.slots.specs.declared.CoreSlot.{CoreSlot}
 use Rattle.slots.specs.Limits.{IDS, WHOLE, AREA}
@@ -66,7 +64,7 @@ stage_area area = refused_if (ltb area AREA) SMALL_AREA
 
 -- 3, 4 and 5: the fields from left to right, as they were read.
 unfoldable pub stage_fields : ReadRequest → Verdict
-stage_fields read = elim read.reading [ Whole ↦ Passed | unread r ↦ Refused r ]
+stage_fields read = elim read [ Ok q ↦ Passed | Err r ↦ Refused r ]
 
 -- 6: the slot is before the base.
 unfoldable pub stage_early : Timetable → Request → Verdict
@@ -82,7 +80,7 @@ stage_behind es = refused_at BEHIND (behind es)
 
 -- The stages that need no entries, in their order.
 unfoldable pub stages_first : Timetable → ReadRequest → ℕ → List Verdict
-stages_first t read area = stage_sound t ∷ stage_area area ∷ stage_fields read ∷ stage_early t read.request ∷ []
+stages_first t read area = stage_sound t ∷ stage_area area ∷ stage_fields read ∷ stage_early t (requested read) ∷ []
 
 -- The stages after them, over the entries at the request slot.
 unfoldable pub stages_listed : List Entry → List Verdict
@@ -90,4 +88,4 @@ stages_listed es = stage_overfull es ∷ stage_behind es ∷ []
 
 -- What a request, as it was read, gets before the search.
 unfoldable pub verdict_before : Timetable → ReadRequest → ℕ → Verdict
-verdict_before t read area = first_of (stages_first t read area ++ stages_listed (start_entries t read.request.slot read.request.asks))
+verdict_before t read area = first_of (stages_first t read area ++ stages_listed (start_entries t (requested read).slot (requested read).asks))

@@ -3,17 +3,16 @@ ghost use Rattle.std.specs.Prelude.{IfErr, IfOk, MatchResult, OnOk, false, true,
 ghost use Rattle.change.specs.Entered.{entered};
 ghost use Rattle.change.specs.Periods.{ArePeriods};
 ghost use Rattle.change.specs.Stages.{asked_bound, bound_before, entering, is_behind, stage_behind, stage_overfull, stages_first, stages_listed};
-ghost use Rattle.numbers.specs.Chain.{first_of};
-ghost use Rattle.numbers.specs.declared.Verdict.TheVariants.{Passed, Refused};
+ghost use Rattle.numbers.specs.Chain.{Passed, Refused, first_of};
 ghost use Rattle.numbers.specs.Numbers.{NOT_SOUND, refusal};
-ghost use Rattle.records.specs.Request.{read_request};
+ghost use Rattle.records.specs.Request.{read_request, requested};
 ghost use Rattle.slots.specs.Limits.{IDS};
 ghost use Rattle.timetable.specs.Sound.{entries_in_range, entry_in_range, is_sound};
 ghost use Rattle.timetable.specs.Timetable.{each, is_listed, shortfall_after};
 
 use numbers::Refusal;
 use records::read::read_request;
-use records::{Ask, Reading, Request};
+use records::{Ask, Request};
 use timetable::{Entry, SoundTimetable, Timetable, weight_of};
 
 // The first stage: the timetable as one that is known to be sound.
@@ -26,17 +25,13 @@ pub fn sound_stage<'a>(t: &'a Timetable) -> Result<SoundTimetable<'a>, Refusal>
 // The stages of a sound timetable that need no entries, 2, the fields and 6, and the request that passed them.
 pub fn first_stages(t: SoundTimetable, request: &[u8], area: usize) -> Result<Request, Refusal>
     ensures passed { OnOk result (first_of (stages_first t.entry.timetable.now (read_request request.now) area) ≡ Passed) }
-    ensures asked { IfOk result (λ q. q ≡ (read_request request.now).request) }
+    ensures asked { IfOk result (λ q. q ≡ requested (read_request request.now)) }
     ensures refused { IfErr result (λ r. first_of (stages_first t.entry.timetable.now (read_request request.now) area) ≡ Refused r) }
 {
     if area < Timetable::AREA {
         return Err(Refusal::of(Refusal::SMALL_AREA, 0));
     }
-    let read = read_request(request);
-    if let Reading::Refused(r) = read.reading {
-        return Err(r);
-    }
-    let asked = read.request;
+    let asked = read_request(request)?;
     if asked.slot.0 < t.timetable.base.0 {
         return Err(Refusal::of(Refusal::TOO_EARLY, 0));
     }

@@ -1,12 +1,12 @@
 -- A chain of stages: a chain in two parts, one stage of it, and a chain of statements with the one verdict that it tells. Assumes nothing.
 use mathlib.Core.List.{List, [], ◌∷◌, ◌++◌}
 use mathlib.Core.Path.{◌≡◌, refl, sym, ap, ◌∙◌, subst}
-use native.Mathlib.Omega.{arith}
-use Prim.Native.Nat.{ℕ}
+use mathlib.Core.Bool.{true≢false}
+use Rattle.std.specs.Prelude.{Ok, Err, is_ok}
 use Rattle.numbers.specs.Chain.{or_else, first_of, Then, refused, passed}
 use Rattle.numbers.specs.declared.Refusal.{Refusal}
-use Rattle.numbers.specs.declared.Verdict.{Verdict}
-use Rattle.numbers.specs.declared.Verdict.TheVariants.{Passed, Refused}
+use Rattle.numbers.specs.Chain.{Verdict}
+use Rattle.numbers.specs.Chain.{Passed, Refused}
 
 -- ---- the chain
 
@@ -23,15 +23,15 @@ first_passed stage rest e = ap (λ (v : Verdict). or_else v (first_of rest)) e
 -- A chain of one stage.
 pub first_one : (stage : Verdict) → first_of (stage ∷ []) ≡ stage
 unfolding first_of or_else
-first_one Passed = refl
-first_one (Refused r) = refl
+first_one (Ok u) = refl
+first_one (Err r) = refl
 
 -- A chain in two parts: the second is asked where the first is passed.
 pub first_split : (a b : List Verdict) → first_of (a ++ b) ≡ or_else (first_of a) (first_of b)
 unfolding first_of or_else
 first_split [] b = refl
-first_split (Passed ∷ a) b = first_split a b
-first_split (Refused r ∷ a) b = refl
+first_split (Ok u ∷ a) b = first_split a b
+first_split (Err r ∷ a) b = refl
 
 -- What the first part refuses the chain refuses;
 pub split_refused : (a b : List Verdict) (r : Refusal) → first_of a ≡ Refused r → first_of (a ++ b) ≡ Refused r
@@ -56,17 +56,17 @@ tells_from A v only some = record { holds = subst A (sym (only some.0 some.1)) s
 
 -- No refusal is a pass.
 pub not_passed : (r : Refusal) → Passed ≡ Refused r → ⊥
-not_passed r e = let z : ◌≡◌ {A = ℕ} 0 1 = cc in omega arith
+not_passed r e = true≢false (ap (λ (v : Verdict). is_ok v) e)
 
 -- A chain in two parts.
 pub then_tells : (A B : Verdict → Type 0) (a b : Verdict) → Tells A a → Tells B b → Tells (Then A B) (or_else a b)
 unfolding or_else
-then_tells A B Passed b x y = record { holds = passed b x.holds y.holds; only = only }
+then_tells A B (Ok u) b x y = record { holds = passed b x.holds y.holds; only = only }
   where
     only : (w : Verdict) → Then A B w → b ≡ w
     only w (refused r z) = absurd (not_passed r (x.only (Refused r) z))
     only w (passed v z u) = y.only w u
-then_tells A B (Refused r) b x y = record { holds = refused r x.holds; only = only }
+then_tells A B (Err r) b x y = record { holds = refused r x.holds; only = only }
   where
     only : (w : Verdict) → Then A B w → Refused r ≡ w
     only w (refused q z) = x.only (Refused q) z

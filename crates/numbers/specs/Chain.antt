@@ -1,10 +1,21 @@
 -- docs/RULES.md 7.2: a chain of stages. The first refusal wins.
-use Rattle.std.specs.Prelude.{Bool, cond, List, [], ◌∷◌, ℕ}
+use Rattle.std.specs.Prelude.{Bool, cond, List, [], ◌∷◌, ℕ, Ok, Err}
 use Rattle.std.proofs.Math.Option.{Option, none, some}
+use Rattle.std.specs.declared.result.Result.{Result}
 use Rattle.numbers.specs.declared.Refusal.{Refusal}
-use Rattle.numbers.specs.declared.Verdict.{Verdict}
-use Rattle.numbers.specs.declared.Verdict.TheVariants.{Passed, Refused}
 use Rattle.numbers.specs.Numbers.{refusal}
+
+-- What a stage says of a request: that it is passed, or its refusal.
+abbrev pub Verdict : Type 0
+Verdict = Result (Unit {0}) Refusal
+
+-- It is passed,
+abbrev pub Passed : Verdict
+Passed = Ok tt
+
+-- or refused.
+abbrev pub Refused : Refusal → Verdict
+Refused r = Err r
 
 -- Helper of stage_sound: a stage that refuses where its test says so, with place 0.
 abbrev pub refused_if : Bool → ℕ → Verdict
@@ -17,8 +28,8 @@ refused_at number (some i) = Refused (refusal number i)
 
 -- Helper of first_of: what a stage says, or where it is passed those after it.
 unfoldable pub or_else : Verdict → Verdict → Verdict
-or_else Passed next = next
-or_else (Refused r) next = Refused r
+or_else (Ok _) next = next
+or_else (Err r) next = Err r
 
 -- What a chain of stages says: the first refusal, or that all are passed.
 unfoldable pub first_of : List Verdict → Verdict

@@ -55,10 +55,3 @@ impl Refusal {
         Refusal { number, place }
     }
 }
-
-// What a stage says of a request: a refusal, or that it is passed.
-#[derive(Clone, Copy)]
-pub enum Verdict {
-    Passed,
-    Refused(Refusal),
-}

@@ -6,8 +6,9 @@ use mathlib.Core.Path.{◌≡◌, ap, ◌∙◌}
 use native.Mathlib.Decide.{dec_lt}
 use native.Mathlib.Omega.{arith}
 use Prim.Native.Nat.{ℕ, ◌<◌}
-use Rattle.archive.proofs.AnswerBack.{answer_back, entries_record, placed_blank}
-use Rattle.archive.specs.AnswerRead.{entry_offset, read_answer, schedule_of, whole_answer}
+use Rattle.std.specs.Prelude.{Ok}
+use Rattle.archive.proofs.AnswerBack.{answer_back, entries_record}
+use Rattle.archive.specs.AnswerRead.{entry_offset, read_answer, schedule_of}
 use Rattle.archive.specs.AnswerReads.{ScheduleRange}
 use Rattle.change.proofs.Answers.{accepted_continues, accepted_owners, record_accepted}
 use Rattle.change.specs.Change.{answer, record_of}
@@ -39,11 +40,10 @@ module _ (t : Timetable) (s : List ℕ) (area : ℕ) (e : (answer t s area).numb
         owner = λ k h. listed_id es _ c.shape (sound.owners k h);
         unused = λ k h b. sound.unused k b h;
         ids = length-map es entry_offset ∙ c.shape;
-        unlisted = λ i h. placed_blank es i;
       }
 
   -- Reading the answer's record gives that schedule.
-  pub accepted_read : read_answer (record_of (answer t s area)) ≡ whole_answer (schedule_of (answer t s area).timetable)
+  pub accepted_read : read_answer (record_of (answer t s area)) ≡ Ok (schedule_of (answer t s area).timetable)
   accepted_read =
       let n = (answer t s area).timetable in
       ap read_answer (record_accepted (answer t s area) e ∙ entries_record n.length n.owners n.entries)

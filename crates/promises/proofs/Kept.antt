@@ -10,6 +10,8 @@ use mathlib.Core.Path.{◌≡◌, refl, sym, ap, ap₂, ◌∙◌, subst}
 use native.Mathlib.Decide.{dec_lt, ℕ_discrete}
 use native.Mathlib.Omega.{arith}
 use Prim.Native.Nat.{ℕ, suc, ◌+◌, ◌-◌, ◌*◌, ◌≤◌, ◌<◌}
+use Rattle.std.specs.Prelude.{Ok, Err}
+use Rattle.records.specs.declared.Request.{Request}
 use Rattle.archive.proofs.AnswerBack.{answer_back}
 use Rattle.archive.proofs.AnswerForms.{answer_form_lem, answer_owner, answer_range}
 use Rattle.archive.proofs.AnswerSteps.{answer_damaged, answer_is, answer_read, field_is, field_read}
@@ -34,8 +36,8 @@ use Rattle.change.specs.Queries.{owner_query, standing, standing_query}
 use Rattle.change.specs.Refused.{StagesSay}
 use Rattle.change.specs.Stages.{verdict_before}
 use Rattle.numbers.specs.declared.Refusal.{Refusal}
-use Rattle.numbers.specs.declared.Verdict.{Verdict}
-use Rattle.numbers.specs.declared.Verdict.TheVariants.{Passed, Refused}
+use Rattle.numbers.specs.Chain.{Verdict}
+use Rattle.numbers.specs.Chain.{Passed, Refused}
 use Rattle.numbers.specs.Numbers.{ACCEPTED, SLOT_MISSED, LENGTHS_EXHAUSTED}
 use Rattle.placement.proofs.Complete.{placement_none, placement_some}
 use Rattle.placement.specs.Any.{CyclicPlacement}
@@ -47,12 +49,11 @@ use Rattle.promises.specs.Promises.{SoundStays, Windows, OneOwner, PlacementComp
 use Rattle.records.proofs.AnswerLaws.{answer_length}
 use Rattle.records.proofs.OneForm.{one_form}
 use Rattle.records.proofs.ReadLaws.{read_in_range, refused_in_range}
-use Rattle.records.proofs.ReadSteps.{as_read, read_alike, request_is, request_read}
+use Rattle.records.proofs.ReadSteps.{as_read, read_alike, read_requested, request_is, request_read}
 use Rattle.records.proofs.RoundTrip.{round_trip}
 use Rattle.records.proofs.SetsLaws.{sets_rest, sets_taken}
-use Rattle.records.specs.declared.ReadRequest.{ReadRequest}
 use Rattle.records.specs.Reads.{RequestRead}
-use Rattle.records.specs.Request.{read_request}
+use Rattle.records.specs.Request.{read_request, ReadRequest, requested}
 use Rattle.slots.proofs.Below.{count_most}
 use Rattle.slots.proofs.Windows.{attains, kept_windows, window_le, worked_off}
 use Rattle.slots.specs.Below.{count}
@@ -161,12 +162,12 @@ shortest t s area p =
     }
 
 -- The tries of a request that passes the stages are those of its search.
-searched : (t : Timetable) (s area : List ℕ) → Passes t s (length area) → (outcome t s area).tries ≡ (search_of t (read_request s).request).tries
+searched : (t : Timetable) (s area : List ℕ) → Passes t s (length area) → (outcome t s area).tries ≡ (search_of t (requested (read_request s))).tries
 unfolding outcome answer answer_to answer_of
 searched t s area p =
     ap (λ (v : Verdict). (elim v as (λ _. Answer) [
-      | Passed ↦ answer_of t (read_request s).request (search_of t (read_request s).request)
-      | Refused r ↦ refuse t r
+      | Ok _ ↦ answer_of t (requested (read_request s)) (search_of t (requested (read_request s)))
+      | Err r ↦ refuse t r
     ]).tries) (no_refusal t s (length area) p)
 
 pub tries : Tries
@@ -175,13 +176,13 @@ tries = record {
   before = λ t s area x p. ap (λ (o : Outcome). o.tries) (refused_so t s area (read_request s) (request_read s) x p).0;
   counted = counted;
   few = λ t s area p.
-      subst (λ (x : ℕ). x ≤ suc (read_request s).request.limit) (sym (counted t s area p))
-      (count_most (is_searched (start_plan t (read_request s).request)) (suc (read_request s).request.limit));
+      subst (λ (x : ℕ). x ≤ suc (requested (read_request s)).limit) (sym (counted t s area p))
+      (count_most (is_searched (start_plan t (requested (read_request s)))) (suc (requested (read_request s)).limit));
 }
   where
     counted : (t : Timetable) (s area : List ℕ) → Passes t s (length area)
-        → (outcome t s area).tries ≡ count (suc (read_request s).request.limit) (is_searched (start_plan t (read_request s).request))
-    counted t s area p = searched t s area p ∙ tries_count (start_plan t (read_request s).request) (read_request s).request.limit
+        → (outcome t s area).tries ≡ count (suc (requested (read_request s)).limit) (is_searched (start_plan t (requested (read_request s))))
+    counted t s area p = searched t s area p ∙ tries_count (start_plan t (requested (read_request s))) (requested (read_request s)).limit
 
 -- ---- 7 and 8
 
@@ -200,7 +201,7 @@ stages_kept = record {
     only t s area read e r out (early a d x p) n m l =
         read_alike (λ y. StagesSay t y (length area) (Refused x)) s a read d e p
     only t s area read e r out (schedule a d p u v w) n m l = absurd (n w.number)
-    only t s area read e r out (wanting a d p k x w) n m l = absurd (elim (wanting_number t a.request k x w) [ inl z ↦ m z | inr z ↦ l z ])
+    only t s area read e r out (wanting a d p k x w) n m l = absurd (elim (wanting_number t (requested a) k x w) [ inl z ↦ m z | inr z ↦ l z ])
 
 pub one_form_kept : OneForm
 one_form_kept = record { one = one_form; back = round_trip; range = read_in_range; damaged = refused_in_range }
@@ -275,25 +276,36 @@ passes t s area = at (outcome t s area) (area_after t s area) (gives t s area)
 
 module _ (t : Timetable) (s s' area : List ℕ) (larger : LargerT s s') where
   abbrev limit : ℕ
-  limit = (read_request s).request.limit
+  limit = (requested (read_request s)).limit
 
   -- What is read differs in T alone, so the plan of length 0 is the same.
-  same_request : read_request s' ≡ with_t (read_request s').request.limit (read_request s)
-  same_request =
-      let a = larger.read' ∙ sym larger.read in
+  abbrev asked : Request
+  asked = requested (read_request s)
+
+  abbrev limit' : ℕ
+  limit' = (requested (read_request s')).limit
+
+  same_asked : requested (read_request s') ≡ with_t limit' asked
+  same_asked =
       let b = larger.slot in
       let c = larger.asks in
-      λ j. record { reading = a j; request = record { slot = b j; limit = (read_request s').request.limit; asks = c j } }
+      λ j. record { slot = b j; limit = limit'; asks = c j }
 
-  same_start : start_plan t (read_request s').request ≡ start_plan t (read_request s).request
+  first_read : read_request s ≡ Ok asked
+  first_read = read_requested (read_request s) larger.read
+
+  same_request : read_request s' ≡ Ok (with_t limit' asked)
+  same_request = read_requested (read_request s') larger.read' ∙ ap Ok same_asked
+
+  same_start : start_plan t (requested (read_request s')) ≡ start_plan t asked
   unfolding start_plan
-  same_start = ap (λ (read : ReadRequest). start_plan t read.request) same_request
+  same_start = ap (start_plan t) same_asked
 
   -- Any answer but 11 is the same.
   unmoved : (outcome t s area).number ≢ LENGTHS_EXHAUSTED → (outcome t s' area ≡ outcome t s area) × (area_after t s' area ≡ area_after t s area)
   unfolding outcome area_after
   unmoved n =
-      let e = answer_raised t s s' (length area) same_request larger.larger n in
+      let e = answer_raised t s s' (length area) limit' asked first_read same_request larger.larger n in
       (ap outcome_of e, ap (λ (a : Answer). written a area) e)
 
   -- After an 11 the request passes with a larger T too.
@@ -303,7 +315,8 @@ module _ (t : Timetable) (s s' area : List ℕ) (larger : LargerT s s') where
   raised_again z =
       passed_number t s' (length area)
       (ap (λ (read : ReadRequest). verdict_before t read (length area)) same_request
-      ∙ verdict_raised t (read_request s) (read_request s').request.limit (length area)
+      ∙ verdict_raised t asked limit' (length area)
+      ∙ sym (ap (λ (read : ReadRequest). verdict_before t read (length area)) first_read)
       ∙ no_refusal t s (length area) (passes t s area (λ a b. omega (arith, z))))
 
   -- What would be accepted, or missed, up to T would have been so with T.
@@ -353,24 +366,25 @@ answers_read = record {
   given = λ s at. answer_read s at;
   only = λ s at x d. answer_is s d;
   damaged = λ s r e. answer_damaged s r e;
-  one = λ s e. answer_form_lem s e;
-  range = λ s e. answer_range s e;
+  one = λ s x e. answer_form_lem s x e;
+  range = λ s x e. answer_range s x e;
   back = λ x r. answer_back x r;
   changed = λ t s area e.
       let bytes = record_of (answer t s (length area)) in
       ap read_answer (sets_taken area bytes (length bytes) refl (held t s (length area)).fits) ∙ accepted_read t s (length area) e;
   field = λ s at. field_read s at;
   field_only = λ s at x d. field_is s d;
-  owner = λ s e n. answer_owner s e n;
+  owner = λ s x e n. answer_owner s x e n;
 }
 
 pub requests_written : RequestsWritten
+unfolding requested
 requests_written = record {
   given = λ slot limit listing area. request_written slot limit listing area;
   one = λ slot limit listing area r r' out out' a b. request_written_one slot limit listing area a b;
-  read = λ slot limit listing area e.
-      let l = handed_lists slot limit listing (accepted_whole slot limit listing area e) in
-      rw (written_back slot limit listing area e) (record { read = refl; same_slot = l.0; same_limit = l.1; lists = l.2 });
+  read = λ slot limit listing area n e.
+      let l = handed_lists slot limit listing (accepted_whole slot limit listing area n e) in
+      rw (written_back slot limit listing area n e, requested) (record { read = refl; same_slot = l.0; same_limit = l.1; lists = l.2 });
 }
 
 -- ---- 16 and 17

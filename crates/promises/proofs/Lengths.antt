@@ -16,10 +16,10 @@ use Rattle.placement.specs.Any.{CyclicPlacement}
 use Rattle.placement.specs.Placement.{Place, placement, settle}
 use Rattle.numbers.proofs.ChainLaws.{not_passed}
 use Rattle.numbers.specs.declared.Refusal.{Refusal}
-use Rattle.numbers.specs.declared.Verdict.TheVariants.{Passed, Refused}
+use Rattle.numbers.specs.Chain.{Passed, Refused}
 use Rattle.records.specs.declared.Request.{Request}
 use Rattle.numbers.specs.Numbers.{ACCEPTED, SLOT_MISSED, LENGTHS_EXHAUSTED}
-use Rattle.records.specs.Request.{read_request}
+use Rattle.records.specs.Request.{read_request, requested}
 use Rattle.slots.specs.Limits.{LONGEST}
 use Rattle.timetable.specs.declared.Timetable.{Timetable}
 use Rattle.timetable.specs.Timetable.{entry_of}
@@ -77,7 +77,7 @@ module _ (plan : Plan) (fit : Fit 0 plan) where
 
 module _ (t : Timetable) (s : List ℕ) (area : ℕ) (pass : verdict_before t (read_request s) area ≡ Passed) where
   abbrev r : Request
-  r = (read_request s).request
+  r = requested (read_request s)
 
   abbrev plan : Plan
   plan = start_plan t r

@@ -7,9 +7,9 @@ use mathlib.Core.Logic.{◌≢◌, inl, inr}
 use mathlib.Core.Path.{◌≡◌, refl, sym, ap, ◌∙◌, subst, subst₂}
 use Prim.Native.Nat.{ℕ}
 use native.Mathlib.Omega.{arith}
+use Rattle.std.specs.Prelude.{Ok}
 use Rattle.archive.specs.AnswerRead.{no_schedule, read_answer, schedule_of}
 use Rattle.archive.specs.AnswerReads.{AnswerRead, FieldRead}
-use Rattle.archive.specs.declared.Writing.{Writing}
 use Rattle.archive.specs.Writes.{RequestWritten}
 use Rattle.change.proofs.Answers.{refusal_number}
 use Rattle.change.proofs.GivenLaws.{wanting_number}
@@ -20,16 +20,14 @@ use Rattle.change.specs.declared.Outcome.{Outcome}
 use Rattle.change.specs.Given.{Accepted, Gives, early, schedule, wanting}
 use Rattle.change.specs.Queried.{OwnerGiven, StandingGiven}
 use Rattle.change.specs.Refused.{StagesSay}
-use Rattle.numbers.specs.declared.Verdict.TheVariants.{Refused}
+use Rattle.numbers.specs.Chain.{Refused}
 use Rattle.numbers.specs.Numbers.{ACCEPTED, SLOT_MISSED, LENGTHS_EXHAUSTED}
 use Rattle.promises.proofs.Kept.{answers_read, exact, kept_shortfall, one_owner, queries, raising_T, requests_written, shortest, sound_stays, stages_kept, windows, as_before, debts, granted_as_there}
 use Rattle.promises.specs.OfCode.{Meets, Serves, start, accepts, refuses, DemandOne, DemandTwo, DemandThree, DeficitMeans, QueriesOfCode, RaisingTOfCode, ArchiveOfCode, AsBeforeOfCode, DebtsOfCode, GrantedOfCode}
 use Rattle.promises.specs.Promises.{QueriesTell, RaisedT, ReadAs, ServesOne, ShortestOf, ShortfallMeans, WindowsKept, StaysAsThere, WorkedOff}
 use Rattle.records.proofs.ReadSteps.{as_read, read_alike}
-use Rattle.records.specs.declared.Reading.TheVariants.{Whole}
-use Rattle.records.specs.declared.ReadRequest.{ReadRequest}
 use Rattle.records.specs.Reads.{RequestRead}
-use Rattle.records.specs.Request.{read_request}
+use Rattle.records.specs.Request.{read_request, ReadRequest, requested}
 use Rattle.timetable.specs.declared.Timetable.{Timetable}
 use Rattle.timetable.specs.History.{History, present}
 use Rattle.timetable.specs.Sound.{is_sound}
@@ -68,14 +66,14 @@ demand_two = record {
 }
   where
     so : (t : Timetable) (s area : List ℕ) (read : ReadRequest) → RequestRead s read → (r : Outcome) (out : List ℕ) → Gives t s area r out
-        → r.number ≡ ACCEPTED → Accepted t read.request area r out
+        → r.number ≡ ACCEPTED → Accepted t (requested read) area r out
     so t s area read e r out (early a d x p) n =
         absurd
         (let k = refusal_number t s (length area) x (as_read (λ y. StagesSay t y (length area) (Refused x)) s a d p) in
         omega (arith, k.0, n))
     so t s area read e r out (schedule a d p u v w) n =
-        read_alike (λ y. Accepted t y.request area u v) s a read d e w
-    so t s area read e r out (wanting a d p k x w) n = absurd (elim (wanting_number t a.request k x w) [ inl z ↦ omega arith | inr z ↦ omega arith ])
+        read_alike (λ y. Accepted t (requested y) area u v) s a read d e w
+    so t s area read e r out (wanting a d p k x w) n = absurd (elim (wanting_number t (requested a) k x w) [ inl z ↦ omega arith | inr z ↦ omega arith ])
 
 -- A controller's history is that of the requests it was sent.
 sent_history : (h : History) → Serves h → (sent : List Sent) × (h ≡ history_of sent)
@@ -102,13 +100,13 @@ pub demand_three : DemandThree
 demand_three = record {
   windows = of_controller WindowsKept windows;
   one_owner = of_controller ServesOne one_owner;
-  shortest = λ t s area r out m p. of_code t s area r out m (λ (o : Outcome) (_ : List ℕ). ShortestOf t (read_request s).request o) (shortest t s area p);
+  shortest = λ t s area r out m p. of_code t s area r out m (λ (o : Outcome) (_ : List ℕ). ShortestOf t (requested (read_request s)) o) (shortest t s area p);
 }
 
 pub raising_T_of_code : RaisingTOfCode
 raising_T_of_code t s s' area r r' out out' m m' larger =
-    of_code t s area r out m (λ (o : Outcome) (a : List ℕ). RaisedT (read_request s).request.limit o a r' out')
-    (of_code t s' area r' out' m' (RaisedT (read_request s).request.limit (outcome t s area) (area_after t s area)) (raising_T t s s' area larger))
+    of_code t s area r out m (λ (o : Outcome) (a : List ℕ). RaisedT (requested (read_request s)).limit o a r' out')
+    (of_code t s' area r' out' m' (RaisedT (requested (read_request s)).limit (outcome t s area) (area_after t s area)) (raising_T t s s' area larger))
 
 pub as_before_of_code : AsBeforeOfCode
 as_before_of_code t s s' area r r' out out' m m' f =
@@ -149,17 +147,17 @@ archive_of_code = record {
     (λ e. subst (FieldRead s at) (sym e) (answers_read.field s at)),
     (λ d. sym (answers_read.field_only s at x d)),
   );
-  owner = λ s e n o told. told ∙ answers_read.owner s e n;
+  owner = λ s x e n o told. told ∙ answers_read.owner s x e n;
   changed = λ t s area r out m e x read.
       read
       ∙ of_code t s area r out m
-      (λ (o : Outcome) (a : List ℕ). o.number ≡ ACCEPTED → read_answer (take o.written a) ≡ record { reading = Whole; schedule = schedule_of o.timetable })
+      (λ (o : Outcome) (a : List ℕ). o.number ≡ ACCEPTED → read_answer (take o.written a) ≡ Ok (schedule_of o.timetable))
       (answers_read.changed t s area) e;
   request = λ slot limit listing area w out. (
     (λ m. subst₂ (RequestWritten slot limit listing area) (sym m.0) (sym m.1) (requests_written.given slot limit listing area)),
     (λ d. requests_written.one slot limit listing area w _ out _ d (requests_written.given slot limit listing area)),
   );
-  read = λ slot limit listing area w out m n e.
-      subst₂ (λ (v : Writing) (a : List ℕ). v.number ≡ ACCEPTED → ReadAs slot limit listing (read_request (take v.written a))) (sym m) (sym n)
-      (requests_written.read slot limit listing area) e;
+  read = λ slot limit listing area w out m p n e.
+      subst (λ (a : List ℕ). ReadAs slot limit listing (read_request (take n a))) (sym p)
+      (requests_written.read slot limit listing area n (sym m ∙ e));
 }

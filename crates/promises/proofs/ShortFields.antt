@@ -9,6 +9,8 @@ use mathlib.Core.Path.{◌≡◌, refl, sym, ap, ◌∙◌, subst}
 use native.Mathlib.Decide.{ℕ_discrete}
 use native.Mathlib.Omega.{arith}
 use Prim.Native.Nat.{ℕ, ◌≤◌, ◌<◌}
+use Rattle.std.specs.Prelude.{Ok, IsOk}
+use Rattle.records.proofs.ReadSteps.{read_requested}
 use Rattle.change.proofs.AsBefore.{in_full_same, with_asks}
 use Rattle.change.proofs.Onward.{as_there}
 use Rattle.change.proofs.GivenLaws.{asks_bound}
@@ -18,12 +20,10 @@ use Rattle.change.specs.Change.{answer, answer_to}
 use Rattle.change.specs.Stages.{asked_bound}
 use Rattle.promises.specs.Promises.{AskInFull, InFull, AsksAsThere}
 use Rattle.records.proofs.AnyRequest.{any_request}
-use Rattle.records.proofs.ReadLaws.{AskRange, RequestRange, read_in_range}
+use Rattle.records.proofs.ReadLaws.{AskRange, RequestRange, requested_in_range}
 use Rattle.records.specs.declared.Ask.{Ask}
-use Rattle.records.specs.declared.Reading.TheVariants.{Whole}
-use Rattle.records.specs.declared.ReadRequest.{ReadRequest}
 use Rattle.records.specs.declared.Request.{Request}
-use Rattle.records.specs.Request.{ask_of, is_asked, no_ask, read_request}
+use Rattle.records.specs.Request.{ask_of, is_asked, no_ask, read_request, ReadRequest, requested}
 use Rattle.slots.specs.declared.CoreSlot.{CoreSlot}
 use Rattle.slots.specs.Limits.{IDS, LAST_SLOT, LONGEST}
 use Rattle.timetable.proofs.Ranges.{InRange, Period, period_pos}
@@ -38,15 +38,19 @@ use Rattle.timetable.specs.Timetable.{entry_of, is_listed}
 pub same_answer : (t : Timetable) (s s' : List ℕ) (area : ℕ) → InFull t s s' → answer t s' area ≡ answer t s area
 unfolding answer
 same_answer t s s' area f =
+    let q = read_requested (read_request s) f.read in
     ap (λ (read : ReadRequest). answer_to t read area) same
-    ∙ in_full_same t (read_request s) (read_request s').request.asks (λ i k. (f.asks i k).period) (λ i k p. ((f.asks i k).given p, (f.asks i k).bound p)) area
+    ∙ in_full_same t (requested (read_request s)) (requested (read_request s')).asks (λ i k. (f.asks i k).period) (λ i k p. ((f.asks i k).given p, (f.asks i k).bound p)) area
+    ∙ sym (ap (λ (read : ReadRequest). answer_to t read area) q)
   where
-    same : read_request s' ≡ with_asks (read_request s').request.asks (read_request s)
-    same =
-        let a = f.read' ∙ sym f.read in
+    request : requested (read_request s') ≡ with_asks (requested (read_request s')).asks (requested (read_request s))
+    request =
         let b = f.slot in
         let c = f.limit in
-        λ j. record { reading = a j; request = record { slot = b j; limit = c j; asks = (read_request s').request.asks } }
+        λ j. record { slot = b j; limit = c j; asks = (requested (read_request s')).asks }
+
+    same : read_request s' ≡ Ok (with_asks (requested (read_request s')).asks (requested (read_request s)))
+    same = read_requested (read_request s') f.read' ∙ ap Ok request
 
 -- ---- one request in full
 
@@ -65,25 +69,28 @@ ask_one old a f g rf rg p q = let x = q.period ∙ sym p.period in let y = at (�
 
 pub full_one : (t : Timetable) (s s' s'' : List ℕ) → InFull t s s' → InFull t s s'' → read_request s'' ≡ read_request s'
 full_one t s s' s'' f g =
-    let a = g.read' ∙ sym f.read' in
-    let b = g.slot ∙ sym f.slot in
-    let c = g.limit ∙ sym f.limit in
-    let d = asks in
-    λ j. record { reading = a j; request = record { slot = b j; limit = c j; asks = d j } }
+    read_requested (read_request s'') g.read' ∙ ap Ok same ∙ sym (read_requested (read_request s') f.read')
   where
-    r : RequestRange (read_request s').request
-    r = read_in_range s' f.read'
+    r : RequestRange (requested (read_request s'))
+    r = requested_in_range s' f.read'
 
-    u : RequestRange (read_request s'').request
-    u = read_in_range s'' g.read'
+    u : RequestRange (requested (read_request s''))
+    u = requested_in_range s'' g.read'
 
-    asks : (read_request s'').request.asks ≡ (read_request s').request.asks
+    asks : (requested (read_request s'')).asks ≡ (requested (read_request s')).asks
     asks =
-        ext_get_or no_ask (read_request s'').request.asks (read_request s').request.asks (u.asks.count ∙ sym r.asks.count)
+        ext_get_or no_ask (requested (read_request s'')).asks (requested (read_request s')).asks (u.asks.count ∙ sym r.asks.count)
         (λ i l.
         let k : i < IDS = omega (arith, u.asks.count) in
-        ask_one (entry_of t.entries i) (ask_of (read_request s).request.asks i) (ask_of (read_request s').request.asks i) (ask_of (read_request s'').request.asks i)
+        ask_one (entry_of t.entries i) (ask_of (requested (read_request s)).asks i) (ask_of (requested (read_request s')).asks i) (ask_of (requested (read_request s'')).asks i)
         (r.asks.each i k) (u.asks.each i k) (f.asks i k) (g.asks i k))
+
+    same : requested (read_request s'') ≡ requested (read_request s')
+    same =
+        let b = g.slot ∙ sym f.slot in
+        let c = g.limit ∙ sym f.limit in
+        let d = asks in
+        λ j. record { slot = b j; limit = c j; asks = d j }
 
 -- ---- that there are such requests
 
@@ -126,7 +133,7 @@ module _ (old : Entry) (range : is_listed old ≡ true → InRange old) (a : Ask
       at false e = subst AskRange (sym (full_none e)) (inl (refl, refl))
 
 -- A request that is read has a request in full.
-pub full_request : (t : Timetable) (s : List ℕ) → Sound t → (read_request s).reading ≡ Whole → (s' : List ℕ) × InFull t s s'
+pub full_request : (t : Timetable) (s : List ℕ) → Sound t → IsOk (read_request s) → (s' : List ℕ) × InFull t s s'
 full_request t s sound read =
     let x = any_request q.slot.0 q.limit (λ i. full (entry_of t.entries i) (ask_of q.asks i)) r.slot r.limit (λ i k. full_range _ (sound.ranged.listed i k) _ (r.asks.each i k)) in (
       x.0,
@@ -142,17 +149,17 @@ full_request t s sound read =
     )
   where
     q : Request
-    q = (read_request s).request
+    q = requested (read_request s)
 
     r : RequestRange q
-    r = read_in_range s read
+    r = requested_in_range s read
 
 -- What is there can be asked for at every slot from the base on, with every T.
 pub there_request : (t : Timetable) → Sound t → (slot limit : ℕ) → t.base.0 ≤ slot → slot ≤ LAST_SLOT → limit ≤ LONGEST
-    → (s : List ℕ) × AsksAsThere t s × ((read_request s).request.slot.0 ≡ slot) × ((read_request s).request.limit ≡ limit)
+    → (s : List ℕ) × AsksAsThere t s × ((requested (read_request s)).slot.0 ≡ slot) × ((requested (read_request s)).limit ≡ limit)
 there_request t sound slot limit later high low =
     let x = any_request slot limit (λ i. as_there (entry_of t.entries i)) high low (λ i k. range i k (is_listed (entry_of t.entries i)) refl) in
-    let e : (read_request x.0).request.slot.0 ≡ slot = ap (λ (y : CoreSlot). y.0) x.1.slot in
+    let e : (requested (read_request x.0)).slot.0 ≡ slot = ap (λ (y : CoreSlot). y.0) x.1.slot in
     (x.0, record { read = x.1.read; in_time = omega (arith, e); asks = x.1.asks }, e, x.1.limit)
   where
     range : (i : ℕ) → i < IDS → (b : Bool) → is_listed (entry_of t.entries i) ≡ b → AskRange (as_there (entry_of t.entries i))

@@ -1,10 +1,8 @@
 -- docs/RULES.md 1.4 to 1.12, demands 1 to 3 and what lab, service screen, desk, lab network and method software read, of the code: of whatever meets the contract of `change`, of a query, of the reader of answers or the writer of requests, and of a controller that is made of such calls.
-use Rattle.std.specs.Prelude.{get_or, length, take, true, List, [], ◌∷◌, ◌↔◌, ◌≢◌, ◌≡◌, ℕ, ◌-◌, ◌≤◌, ◌<◌}
-use Rattle.archive.specs.AnswerRead.{field_at, no_schedule, read_answer, read_from, schedule_of, told_owner}
+use Rattle.std.specs.Prelude.{get_or, length, take, true, List, [], ◌∷◌, ◌↔◌, ◌≢◌, ◌≡◌, ℕ, ◌-◌, ◌≤◌, ◌<◌, Ok}
+use Rattle.archive.specs.declared.Schedule.{Schedule}
+use Rattle.archive.specs.AnswerRead.{field_at, no_schedule, read_answer, read_from, schedule_of, told_owner, ReadAnswer, ReadField}
 use Rattle.archive.specs.AnswerReads.{AnswerRead, FieldRead}
-use Rattle.archive.specs.declared.AnswerStep.{AnswerStep}
-use Rattle.archive.specs.declared.ReadAnswer.{ReadAnswer}
-use Rattle.archive.specs.declared.Writing.{Writing}
 use Rattle.archive.specs.RequestWrite.{area_written, write_request}
 use Rattle.archive.specs.Writes.{RequestWritten}
 use Rattle.change.specs.Change.{outcome, area_after}
@@ -16,13 +14,11 @@ use Rattle.change.specs.Queried.{OwnerGiven, StandingGiven, owner_answer, standi
 use Rattle.change.specs.Queries.{owner_query, standing_query}
 use Rattle.change.specs.Refused.{StagesSay}
 use Rattle.numbers.specs.declared.Refusal.{Refusal}
-use Rattle.numbers.specs.declared.Verdict.TheVariants.{Passed, Refused}
+use Rattle.numbers.specs.Chain.{Passed, Refused}
 use Rattle.numbers.specs.Numbers.{ACCEPTED, SLOT_MISSED, LENGTHS_EXHAUSTED}
 use Rattle.promises.specs.Promises.{LargerT, Passes, RaisedT, ReadAs, ServesOne, ShortestOf, ShortfallMeans, WindowsKept, AsksAsThere, InFull, StaysAsThere, WorkedOff}
-use Rattle.records.specs.declared.Reading.TheVariants.{Whole}
-use Rattle.records.specs.declared.ReadRequest.{ReadRequest}
 use Rattle.records.specs.Reads.{RequestRead}
-use Rattle.records.specs.Request.{read_request}
+use Rattle.records.specs.Request.{read_request, ReadRequest, requested, Reading}
 use Rattle.slots.specs.Clocks.{core_slot, slice_count}
 use Rattle.slots.specs.declared.CoreSlot.{CoreSlot}
 use Rattle.slots.specs.Limits.{AREA, IDS, LAST_SLOT}
@@ -63,9 +59,9 @@ pub record DemandOne : Type 0 where
 -- rule by rule, which leaves one outcome and one content of the area; and of any request, what the code gives is what the rules give, and nothing else.
 pub record DemandTwo : Type 0 where
   pub accepted : (t : Timetable) (s area : List ℕ) (r : Outcome) (out : List ℕ) → Meets t s area r out → r.number ≡ ACCEPTED
-      → (read : ReadRequest) → RequestRead s read → Accepted t read.request area r out
+      → (read : ReadRequest) → RequestRead s read → Accepted t (requested read) area r out
   pub one : (t : Timetable) (s area : List ℕ) (read : ReadRequest) → RequestRead s read → StagesSay t read (length area) Passed
-      → (r r' : Outcome) (out out' : List ℕ) → Accepted t read.request area r out → Accepted t read.request area r' out' → (r ≡ r') × (out ≡ out')
+      → (r r' : Outcome) (out out' : List ℕ) → Accepted t (requested read) area r out → Accepted t (requested read) area r' out' → (r ≡ r') × (out ≡ out')
   pub exactly : (t : Timetable) (s area : List ℕ) (r : Outcome) (out : List ℕ) → Meets t s area r out ↔ Gives t s area r out
 
 -- Demand 3: every window of the run that the controller makes keeps its bound; no slot serves two; the transition is the shortest, and a request that
@@ -75,12 +71,12 @@ pub record DemandThree : Type 0 where
   pub windows : (h : History) → Serves h → WindowsKept h
   pub one_owner : (h : History) → Serves h → ServesOne h
   pub shortest : (t : Timetable) (s area : List ℕ) (r : Outcome) (out : List ℕ) → Meets t s area r out → Passes t s (length area)
-      → ShortestOf t (read_request s).request r
+      → ShortestOf t (requested (read_request s)) r
 
 -- What the commissioning desk reads: whether a larger T may help, of any two outcomes that meet the contract.
 abbrev pub RaisingTOfCode : Type 0
 RaisingTOfCode = (t : Timetable) (s s' area : List ℕ) (r r' : Outcome) (out out' : List ℕ) → Meets t s area r out → Meets t s' area r' out'
-    → LargerT s s' → RaisedT (read_request s).request.limit r out r' out'
+    → LargerT s s' → RaisedT (requested (read_request s)).limit r out r' out'
 
 -- What the method software gets for short fields: what it gets for the request in full, of any two outcomes that meet the contract.
 abbrev pub AsBeforeOfCode : Type 0
@@ -118,11 +114,11 @@ pub record QueriesOfCode : Type 0 where
 -- the same slot, T and listing.
 pub record ArchiveOfCode : Type 0 where
   pub answer : (s : List ℕ) (at : ℕ) (x : ReadAnswer) → (x ≡ read_from s at) ↔ AnswerRead s at no_schedule x
-  pub field : (s : List ℕ) (at : ℕ) (x : AnswerStep) → (x ≡ field_at s at) ↔ FieldRead s at x
-  pub owner : (s : List ℕ) → (read_answer s).reading ≡ Whole → (n o : ℕ) → o ≡ told_owner s n → o ≡ get_or (read_answer s).schedule.owners n 0
+  pub field : (s : List ℕ) (at : ℕ) (x : ReadField) → (x ≡ field_at s at) ↔ FieldRead s at x
+  pub owner : (s : List ℕ) (x : Schedule) → read_answer s ≡ Ok x → (n o : ℕ) → o ≡ told_owner s n → o ≡ get_or x.owners n 0
   pub changed : (t : Timetable) (s area : List ℕ) (r : Outcome) (out : List ℕ) → Meets t s area r out → r.number ≡ ACCEPTED
-      → (x : ReadAnswer) → x ≡ read_answer (take r.written out) → x ≡ record { reading = Whole; schedule = schedule_of r.timetable }
-  pub request : (slot : CoreSlot) (limit : ℕ) (listing area : List ℕ) (w : Writing) (out : List ℕ)
+      → (x : ReadAnswer) → x ≡ read_answer (take r.written out) → x ≡ Ok (schedule_of r.timetable)
+  pub request : (slot : CoreSlot) (limit : ℕ) (listing area : List ℕ) (w : Reading ℕ) (out : List ℕ)
       → ((w ≡ write_request slot limit listing (length area)) × (out ≡ area_written slot limit listing area)) ↔ RequestWritten slot limit listing area w out
-  pub read : (slot : CoreSlot) (limit : ℕ) (listing area : List ℕ) (w : Writing) (out : List ℕ) → w ≡ write_request slot limit listing (length area)
-      → out ≡ area_written slot limit listing area → w.number ≡ ACCEPTED → ReadAs slot limit listing (read_request (take w.written out))
+  pub read : (slot : CoreSlot) (limit : ℕ) (listing area : List ℕ) (w : Reading ℕ) (out : List ℕ) → w ≡ write_request slot limit listing (length area)
+      → out ≡ area_written slot limit listing area → (n : ℕ) → w ≡ Ok n → ReadAs slot limit listing (read_request (take n out))

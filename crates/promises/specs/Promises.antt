@@ -1,13 +1,10 @@
 -- docs/RULES.md 1.4 to 1.12: the promises, as statements about the definitions. Each speaks of the slots and of the rules, never of how something is
 -- computed; proofs/Kept.antt proves each under its name. Two wrong programs that a promise shuts out stand under it.
-use Rattle.std.specs.Prelude.{get_or, length, take, false, true, List, [], ◌∷◌, ◌↔◌, ◌≢◌, ◌⊎◌, ◌≡◌, ℕ, suc, ◌+◌, ◌-◌, ◌*◌, ◌≤◌, ◌<◌}
+use Rattle.std.specs.Prelude.{get_or, length, take, false, true, List, [], ◌∷◌, ◌↔◌, ◌≢◌, ◌⊎◌, ◌≡◌, ℕ, suc, ◌+◌, ◌-◌, ◌*◌, ◌≤◌, ◌<◌, IsOk, Err, Ok}
 use Rattle.std.proofs.Math.Option.{none, some}
-use Rattle.archive.specs.AnswerRead.{field_at, no_schedule, read_answer, read_from, schedule_of, schedule_record, told_owner}
+use Rattle.archive.specs.AnswerRead.{field_at, no_schedule, read_answer, read_from, schedule_of, schedule_record, told_owner, ReadAnswer, ReadField}
 use Rattle.archive.specs.AnswerReads.{AnswerRead, FieldRead, ScheduleRange}
-use Rattle.archive.specs.declared.AnswerStep.{AnswerStep}
-use Rattle.archive.specs.declared.ReadAnswer.{ReadAnswer}
 use Rattle.archive.specs.declared.Schedule.{Schedule}
-use Rattle.archive.specs.declared.Writing.{Writing}
 use Rattle.archive.specs.RequestWrite.{area_written, write_request}
 use Rattle.archive.specs.Writes.{ListsEntries, RequestWritten}
 use Rattle.change.specs.Change.{outcome, area_after, start_plan}
@@ -21,16 +18,14 @@ use Rattle.change.specs.Queries.{owner_query, standing_query}
 use Rattle.change.specs.Refused.{StagesSay}
 use Rattle.change.specs.Stages.{start_entries}
 use Rattle.numbers.specs.declared.Refusal.{Refusal}
-use Rattle.numbers.specs.declared.Verdict.TheVariants.{Passed, Refused}
+use Rattle.numbers.specs.Chain.{Passed, Refused}
 use Rattle.numbers.specs.Numbers.{ACCEPTED, NOT_SOUND, SMALL_AREA, BAD_FIELD, OUT_OF_RANGE, NOT_RISING, TOO_EARLY, OVERFULL, BEHIND, SLOT_MISSED, NOT_LISTED, LENGTHS_EXHAUSTED}
 use Rattle.placement.specs.Any.{CyclicPlacement, NoPlacement}
 use Rattle.placement.specs.Placement.{Place, placement, settle}
 use Rattle.records.specs.declared.Ask.{Ask}
-use Rattle.records.specs.declared.Reading.TheVariants.{Whole, Refused as unread}
-use Rattle.records.specs.declared.ReadRequest.{ReadRequest}
 use Rattle.records.specs.declared.Request.{Request}
 use Rattle.records.specs.Reads.{Bytes, RequestRange, RefusalRange, RequestRead}
-use Rattle.records.specs.Request.{ask_of, read_request}
+use Rattle.records.specs.Request.{ask_of, read_request, ReadRequest, requested, Reading}
 use Rattle.records.specs.Written.{request_record}
 use Rattle.slots.specs.Below.{count}
 use Rattle.slots.specs.Clocks.{core_slot, slice_count}
@@ -106,15 +101,15 @@ pub record ShortestOf (t : Timetable) (q : Request) (r : Outcome) : Type 0 where
 
 -- So for every request that passes.
 abbrev pub Shortest : Type 0
-Shortest = (t : Timetable) (s area : List ℕ) → Passes t s (length area) → ShortestOf t (read_request s).request (outcome t s area)
+Shortest = (t : Timetable) (s area : List ℕ) → Passes t s (length area) → ShortestOf t (requested (read_request s)) (outcome t s area)
 
 -- 6. Tries is the number of lengths up to T whose placement was searched, at most T + 1, and 0 for refusals 1 to 8.
 -- (Shuts out: invented tries; the successful length not counted.)
 pub record Tries : Type 0 where
   pub before : (t : Timetable) (s area : List ℕ) (x : Refusal) → StagesSay t (read_request s) (length area) (Refused x) → (outcome t s area).tries ≡ 0
   pub counted : (t : Timetable) (s area : List ℕ) → Passes t s (length area)
-      → (outcome t s area).tries ≡ count (suc (read_request s).request.limit) (is_searched (start_plan t (read_request s).request))
-  pub few : (t : Timetable) (s area : List ℕ) → Passes t s (length area) → (outcome t s area).tries ≤ suc (read_request s).request.limit
+      → (outcome t s area).tries ≡ count (suc (requested (read_request s)).limit) (is_searched (start_plan t (requested (read_request s))))
+  pub few : (t : Timetable) (s area : List ℕ) → Passes t s (length area) → (outcome t s area).tries ≤ suc (requested (read_request s)).limit
 
 -- 7. Whenever the rules give a refusal before the search, the outcome has its number and its place, no tries, no bytes and the timetable as given, and
 -- the area is untouched; and every outcome with a number but 0, 9 and 11 is such a refusal. The lowest stage wins, fields from left to right, and within a field
@@ -133,10 +128,10 @@ pub record Stages : Type 0 where
 -- 8. A record that is read is the one form of what it says, nothing follows it, and what it says is in range; a damaged one gets one number from 3 to 5 and
 -- a place in the record or at its end. (Shuts out: bytes after the last field ignored; two records for one request.)
 pub record OneForm : Type 0 where
-  pub one : (s : List ℕ) → Bytes s → (read_request s).reading ≡ Whole → s ≡ request_record (read_request s).request
-  pub back : (r : Request) → RequestRange r → read_request (request_record r) ≡ record { reading = Whole; request = r }
-  pub range : (s : List ℕ) → (read_request s).reading ≡ Whole → RequestRange (read_request s).request
-  pub damaged : (s : List ℕ) (r : Refusal) → (read_request s).reading ≡ unread r → RefusalRange s r
+  pub one : (s : List ℕ) (q : Request) → Bytes s → read_request s ≡ Ok q → s ≡ request_record q
+  pub back : (r : Request) → RequestRange r → read_request (request_record r) ≡ Ok r
+  pub range : (s : List ℕ) (q : Request) → read_request s ≡ Ok q → RequestRange q
+  pub damaged : (s : List ℕ) (r : Refusal) → read_request s ≡ Err r → RefusalRange s r
 
 -- 9. The shortfall means what the dictionary says, of every id, listed or not: from the request slot on, at every slot, it is the largest excess of
 -- entitlement over supply among all windows that end there, the empty one included, back to the empty controller and across changes and absences; and the
@@ -194,11 +189,11 @@ pub record Figures : Type 0 where
 
 -- The request s, and s', the same request with a T as large or larger: both are read, and they ask for the same slot and the same listing.
 pub record LargerT (s s' : List ℕ) : Type 0 where
-  pub read : (read_request s).reading ≡ Whole
-  pub read' : (read_request s').reading ≡ Whole
-  pub slot : (read_request s').request.slot ≡ (read_request s).request.slot
-  pub asks : (read_request s').request.asks ≡ (read_request s).request.asks
-  pub larger : (read_request s).request.limit ≤ (read_request s').request.limit
+  pub read : IsOk (read_request s)
+  pub read' : IsOk (read_request s')
+  pub slot : (requested (read_request s')).slot ≡ (requested (read_request s)).slot
+  pub asks : (requested (read_request s')).asks ≡ (requested (read_request s)).asks
+  pub larger : (requested (read_request s)).limit ≤ (requested (read_request s')).limit
 
 -- 13. Raising T: what a request gets with T, the outcome r and the area `out`, beside what the same request gets with a larger T, r' and `out'`.
 -- (Shuts out: 9 and 11 changed for each other; a longer transition taken because a larger T allows it.)
@@ -219,7 +214,7 @@ pub record RaisedT (limit : ℕ) (r : Outcome) (out : List ℕ) (r' : Outcome) (
 -- So for every timetable, request and area.
 abbrev pub RaisingT : Type 0
 RaisingT = (t : Timetable) (s s' area : List ℕ) → LargerT s s'
-    → RaisedT (read_request s).request.limit (outcome t s area) (area_after t s area) (outcome t s' area) (area_after t s' area)
+    → RaisedT (requested (read_request s)).limit (outcome t s area) (area_after t s area) (outcome t s' area) (area_after t s' area)
 
 -- 14. Reading an answer. Each record is read, or refused 3 at the one place, as its fields say, from its start and from any place on; one that is read is
 -- the one record of what was read, and what was read is in range; a schedule in range is read back from its record; and reading what a change wrote gives
@@ -228,23 +223,23 @@ RaisingT = (t : Timetable) (s s' area : List ℕ) → LargerT s s'
 pub record AnswersRead : Type 0 where
   pub given : (s : List ℕ) (at : ℕ) → AnswerRead s at no_schedule (read_from s at)
   pub only : (s : List ℕ) (at : ℕ) (x : ReadAnswer) → AnswerRead s at no_schedule x → read_from s at ≡ x
-  pub damaged : (s : List ℕ) (r : Refusal) → (read_answer s).reading ≡ unread r → (r.number ≡ BAD_FIELD) × (r.place ≤ length s)
-  pub one : (s : List ℕ) → (read_answer s).reading ≡ Whole → s ≡ schedule_record (read_answer s).schedule
-  pub range : (s : List ℕ) → (read_answer s).reading ≡ Whole → ScheduleRange (read_answer s).schedule
-  pub back : (x : Schedule) → ScheduleRange x → read_answer (schedule_record x) ≡ record { reading = Whole; schedule = x }
+  pub damaged : (s : List ℕ) (r : Refusal) → read_answer s ≡ Err r → (r.number ≡ BAD_FIELD) × (r.place ≤ length s)
+  pub one : (s : List ℕ) (x : Schedule) → read_answer s ≡ Ok x → s ≡ schedule_record x
+  pub range : (s : List ℕ) (x : Schedule) → read_answer s ≡ Ok x → ScheduleRange x
+  pub back : (x : Schedule) → ScheduleRange x → read_answer (schedule_record x) ≡ Ok x
   pub changed : (t : Timetable) (s area : List ℕ) → (outcome t s area).number ≡ ACCEPTED
-      → read_answer (take (outcome t s area).written (area_after t s area)) ≡ record { reading = Whole; schedule = schedule_of (outcome t s area).timetable }
+      → read_answer (take (outcome t s area).written (area_after t s area)) ≡ Ok (schedule_of (outcome t s area).timetable)
   -- a field at a time: what stands at a place is one thing, and it is what the reader tells there; and the owner that it tells for a slot is the one read
   pub field : (s : List ℕ) (at : ℕ) → FieldRead s at (field_at s at)
-  pub field_only : (s : List ℕ) (at : ℕ) (x : AnswerStep) → FieldRead s at x → field_at s at ≡ x
-  pub owner : (s : List ℕ) → (read_answer s).reading ≡ Whole → (n : ℕ) → told_owner s n ≡ get_or (read_answer s).schedule.owners n 0
+  pub field_only : (s : List ℕ) (at : ℕ) (x : ReadField) → FieldRead s at x → field_at s at ≡ x
+  pub owner : (s : List ℕ) (x : Schedule) → read_answer s ≡ Ok x → (n : ℕ) → told_owner s n ≡ get_or x.owners n 0
 
--- A request that was read whole, as this slot, T and listing.
+-- A request that was read, as this slot, T and listing.
 pub record ReadAs (slot : CoreSlot) (limit : ℕ) (listing : List ℕ) (x : ReadRequest) : Type 0 where
-  pub read : x.reading ≡ Whole
-  pub same_slot : x.request.slot ≡ slot
-  pub same_limit : x.request.limit ≡ limit
-  pub lists : ListsEntries listing x.request.asks
+  pub read : IsOk x
+  pub same_slot : (requested x).slot ≡ slot
+  pub same_limit : (requested x).limit ≡ limit
+  pub lists : ListsEntries listing (requested x).asks
 
 -- 15. Writing a request. What is returned and the area afterwards are what the rules give, case by case, and those leave one of each; and the controller
 -- reads what was written as the same slot and T, and as a listing that asks for each entry's id what the entry says, and for no other id anything.
@@ -252,10 +247,10 @@ pub record ReadAs (slot : CoreSlot) (limit : ℕ) (listing : List ℕ) (x : Read
 pub record RequestsWritten : Type 0 where
   pub given : (slot : CoreSlot) (limit : ℕ) (listing area : List ℕ)
       → RequestWritten slot limit listing area (write_request slot limit listing (length area)) (area_written slot limit listing area)
-  pub one : (slot : CoreSlot) (limit : ℕ) (listing area : List ℕ) (r r' : Writing) (out out' : List ℕ) → RequestWritten slot limit listing area r out
+  pub one : (slot : CoreSlot) (limit : ℕ) (listing area : List ℕ) (r r' : Reading ℕ) (out out' : List ℕ) → RequestWritten slot limit listing area r out
       → RequestWritten slot limit listing area r' out' → (r ≡ r') × (out ≡ out')
-  pub read : (slot : CoreSlot) (limit : ℕ) (listing area : List ℕ) → (write_request slot limit listing (length area)).number ≡ ACCEPTED
-      → ReadAs slot limit listing (read_request (take (write_request slot limit listing (length area)).written (area_written slot limit listing area)))
+  pub read : (slot : CoreSlot) (limit : ℕ) (listing area : List ℕ) (n : ℕ) → write_request slot limit listing (length area) ≡ Ok n
+      → ReadAs slot limit listing (read_request (take n (area_written slot limit listing area)))
 
 -- What a request asks for an id, `ask`, and the same in full, for an id with this entry in the timetable: the same period, and, where it asks for the id,
 -- an R that is given, the one that is asked.
@@ -266,11 +261,11 @@ pub record AskInFull (old : Entry) (ask full : Ask) : Type 0 where
 
 -- The request s, and s', the same request in full for a timetable: both are read, they have the same slot and T, and what s asks for an id s' asks in full.
 pub record InFull (t : Timetable) (s s' : List ℕ) : Type 0 where
-  pub read : (read_request s).reading ≡ Whole
-  pub read' : (read_request s').reading ≡ Whole
-  pub slot : (read_request s').request.slot ≡ (read_request s).request.slot
-  pub limit : (read_request s').request.limit ≡ (read_request s).request.limit
-  pub asks : (i : ℕ) → i < IDS → AskInFull (entry_of t.entries i) (ask_of (read_request s).request.asks i) (ask_of (read_request s').request.asks i)
+  pub read : IsOk (read_request s)
+  pub read' : IsOk (read_request s')
+  pub slot : (requested (read_request s')).slot ≡ (requested (read_request s)).slot
+  pub limit : (requested (read_request s')).limit ≡ (requested (read_request s)).limit
+  pub asks : (i : ℕ) → i < IDS → AskInFull (entry_of t.entries i) (ask_of (requested (read_request s)).asks i) (ask_of (requested (read_request s')).asks i)
 
 -- 16. As before. For every timetable and area a request with short fields gets exactly the outcome of the request in full, and leaves exactly its area; and
 -- for a sound timetable every request that is read has a request in full, and one only. And 8 names an id with a short field only where it is not listed
@@ -278,18 +273,18 @@ pub record InFull (t : Timetable) (s s' : List ℕ) : Type 0 where
 -- (Shuts out: R 1 kept for a listed id; the R of an id that left; the R of another id.)
 pub record AsBefore : Type 0 where
   pub same : (t : Timetable) (s s' area : List ℕ) → InFull t s s' → (outcome t s' area ≡ outcome t s area) × (area_after t s' area ≡ area_after t s area)
-  pub full : (t : Timetable) (s : List ℕ) → is_sound t ≡ true → (read_request s).reading ≡ Whole → (s' : List ℕ) × InFull t s s'
+  pub full : (t : Timetable) (s : List ℕ) → is_sound t ≡ true → IsOk (read_request s) → (s' : List ℕ) × InFull t s s'
   pub one : (t : Timetable) (s s' s'' : List ℕ) → InFull t s s' → InFull t s s'' → read_request s'' ≡ read_request s'
   pub behind : (t : Timetable) (s area : List ℕ) → (outcome t s area).number ≡ BEHIND
-      → (0 < (ask_of (read_request s).request.asks (outcome t s area).place).bound)
-      ⊎ ((lists t (outcome t s area).place ≡ false) × (WHOLE ≤ shortfall_at t (outcome t s area).place (read_request s).request.slot))
+      → (0 < (ask_of (requested (read_request s)).asks (outcome t s area).place).bound)
+      ⊎ ((lists t (outcome t s area).place ≡ false) × (WHOLE ≤ shortfall_at t (outcome t s area).place (requested (read_request s)).slot))
 
 -- The request s asks a timetable for what is there: it is read, its slot is not before the base, and it lists exactly the present ids, each with its
 -- present period and by a short field.
 pub record AsksAsThere (t : Timetable) (s : List ℕ) : Type 0 where
-  pub read : (read_request s).reading ≡ Whole
-  pub in_time : t.base.0 ≤ (read_request s).request.slot.0
-  pub asks : (i : ℕ) → i < IDS → ask_of (read_request s).request.asks i ≡ record { period = (entry_of t.entries i).period; bound = 0 }
+  pub read : IsOk (read_request s)
+  pub in_time : t.base.0 ≤ (requested (read_request s)).slot.0
+  pub asks : (i : ℕ) → i < IDS → ask_of (requested (read_request s)).asks i ≡ record { period = (entry_of t.entries i).period; bound = 0 }
 
 -- An outcome that is accepted with length 0, and in which each id keeps its period and its R.
 pub record StaysAsThere (t : Timetable) (r : Outcome) : Type 0 where
@@ -304,7 +299,7 @@ pub record StaysAsThere (t : Timetable) (r : Outcome) : Type 0 where
 pub record GrantedAsThere : Type 0 where
   pub granted : (t : Timetable) (s area : List ℕ) → is_sound t ≡ true → AREA ≤ length area → AsksAsThere t s → StaysAsThere t (outcome t s area)
   pub asked : (t : Timetable) → is_sound t ≡ true → (slot limit : ℕ) → t.base.0 ≤ slot → slot ≤ LAST_SLOT → limit ≤ LONGEST
-      → (s : List ℕ) × AsksAsThere t s × ((read_request s).request.slot.0 ≡ slot) × ((read_request s).request.limit ≡ limit)
+      → (s : List ℕ) × AsksAsThere t s × ((requested (read_request s)).slot.0 ≡ slot) × ((requested (read_request s)).limit ≡ limit)
 
 -- 18. A debt is worked off, not dropped. From slot a to slot a + n of a run an id's shortfall falls by at most 256 for each of its own slots between them,
 -- and not at all without one; and over slots in which the id is not listed it stays as it is.

@@ -6,11 +6,10 @@ use mathlib.Core.List.{List, [], ◌∷◌, ◌++◌}
 use mathlib.Core.Path.{◌≡◌, refl, ap, ◌∙◌}
 use native.Mathlib.Omega.{arith}
 use Prim.Native.Nat.{ℕ, zero, suc, ◌+◌, ◌*◌, ◌/◌, ◌%◌, ◌≤◌, ◌<◌}
+use Rattle.std.specs.Prelude.{Ok}
 use Rattle.records.proofs.FieldLaws.{NumberRead}
 use Rattle.records.proofs.ReadSteps.{field_inside}
 use Rattle.records.specs.Answer.{field}
-use Rattle.records.specs.declared.Cursor.{Cursor}
-use Rattle.records.specs.declared.NumberField.TheVariants.{Value as number-value}
 use Rattle.records.specs.Reads.{Bytes}
 use Rattle.records.specs.Request.{is_field, length_at, number_at}
 use Rattle.records.specs.Written.{number_bytes}
@@ -59,7 +58,7 @@ module _ (s : List ℕ) where
       (rw (drop-cons s at 0 (omega arith), i.1, drop-cons s (suc at) 0 (omega arith), drop-cons s (suc (suc at)) 0 (omega arith), f))
 
   -- From the place of a field that holds a number on stands the number as it is written, then what follows.
-  pub number_cut : Bytes s → (at tag size most : ℕ) {n : ℕ} {next : Cursor} → size < 256
-      → NumberRead s at tag size most (number-value n next) → drop at s ≡ field tag (number_bytes n size) ++ drop next.at s
+  pub number_cut : Bytes s → (at tag size most : ℕ) {n : ℕ} → size < 256
+      → NumberRead s at tag size most (Ok n) → drop at s ≡ field tag (number_bytes n size) ++ drop (at + 3 + size) s
   number_cut h at tag size most small (NumberRead.value p q) =
       field_cut at tag size small p ∙ ap (λ (z : List ℕ). field tag z ++ drop (at + 3 + size) s) (bytes_number h (at + 3) size)

@@ -5,12 +5,11 @@ use mathlib.Core.Bool.{Bool, true, false, cond}
 use mathlib.Core.List.{List}
 use mathlib.Core.Path.{◌≡◌, refl}
 use Prim.Native.Nat.{ℕ, ◌+◌, ◌^◌}
-use Rattle.records.specs.declared.ListedField.{ListedField}
-use Rattle.records.specs.declared.ListedField.TheVariants.{Value as listed-value, Refused as listed-refused}
-use Rattle.records.specs.declared.NumberField.{NumberField}
+use Rattle.records.specs.declared.Listed.{Listed}
+use Rattle.std.specs.Prelude.{Ok, Err}
 use Rattle.numbers.specs.Numbers.{NOT_RISING, refusal}
 pub use Rattle.records.specs.Reads.{NumberRead, ListedForm, ListedRead}
-use Rattle.records.specs.Request.{content_at, is_field, listed_as, listed_field, number_field}
+use Rattle.records.specs.Request.{content_at, is_field, listed_as, listed_field, number_field, Reading}
 
 -- A form, then a range, tested in this order.
 tested : {A : Type 0} (Gives : A → Type 0) (form range : Bool) (a b c : A) → (form ≡ false → Gives c)
@@ -28,7 +27,7 @@ module _ (s : List ℕ) (at tag size most : ℕ) where
       (λ p q. NumberRead.value p (leb-true _ _ q))
 
   -- Whatever its cases say is what a field that holds a number gives.
-  pub number_is : (f : NumberField) → NumberRead s at tag size most f → number_field s at tag size most ≡ f
+  pub number_is : (f : Reading ℕ) → NumberRead s at tag size most f → number_field s at tag size most ≡ f
   unfolding number_field
   number_is f (NumberRead.wrong p) = rw p
   number_is f (NumberRead.high p q) = rw (p, lt-leb _ _ q)
@@ -44,8 +43,8 @@ module _ (s : List ℕ) (place : ℕ) where
       at : (b : Bool) → leb floor (content_at s place 0) ≡ b
           → ListedRead s place floor
           (cond b
-          (listed-value (record { id = content_at s place 0; period = 2 ^ content_at s place 1; bound = bound }) (record { at = next }))
-          (listed-refused (refusal NOT_RISING place)))
+          (Ok (record { id = content_at s place 0; ask = record { period = 2 ^ content_at s place 1; bound = bound }; next = next }))
+          (Err (refusal NOT_RISING place)))
       at true p = ListedRead.value f e (leb-true _ _ p)
       at false p = ListedRead.low f e (leb-false _ _ p)
 
@@ -62,7 +61,7 @@ module _ (s : List ℕ) (place : ℕ) where
       (λ p h. rise floor (place + 6) (content_at s place 2) _ (ListedForm.long p) h)
 
   -- Whatever its cases say is what a tag 3 field gives.
-  pub listed_is : (floor : ℕ) (f : ListedField) → ListedRead s place floor f → listed_field s place floor ≡ f
+  pub listed_is : (floor : ℕ) (f : Reading Listed) → ListedRead s place floor f → listed_field s place floor ≡ f
   unfolding listed_field listed_as
   listed_is floor f (ListedRead.wrong p q) = rw (p, q)
   listed_is floor f (ListedRead.high (ListedForm.long p) e) = rw (p, e)

@@ -5,27 +5,22 @@ use mathlib.Core.List.{List}
 use mathlib.Core.Path.{◌≡◌, ap, ◌∙◌, subst}
 use native.Mathlib.Omega.{arith}
 use Prim.Native.Nat.{ℕ, suc, ◌≤◌, ◌<◌}
+use Rattle.std.specs.Prelude.{Ok, Err}
+use Rattle.records.specs.declared.Listed.{Listed}
 use Rattle.records.proofs.FieldLaws.{ListedForm, ListedRead, NumberRead, listed_read, number_read}
 use Rattle.records.proofs.ReadSteps.{ListingRead, listed_range, listing_is, listing_read, number_range}
 use Rattle.records.specs.declared.Ask.{Ask}
-use Rattle.records.specs.declared.Cursor.{Cursor}
-use Rattle.records.specs.declared.ListedField.{ListedField}
-use Rattle.records.specs.declared.ListedField.TheVariants.{Value as listed-value, Refused as listed-refused}
-use Rattle.records.specs.declared.Listing.{Listing}
-use Rattle.records.specs.declared.NumberField.TheVariants.{Value as number-value, Refused as number-refused}
-use Rattle.records.specs.declared.Reading.TheVariants.{Whole, Refused}
 use Rattle.numbers.specs.declared.Refusal.{Refusal}
-use Rattle.records.specs.Request.{limit_field, listed_as, listed_field, no_asks, number_field, read_listing, read_request, refused_request, slot_field, with_listing}
+use Rattle.records.specs.Request.{limit_field, listed_as, listed_field, no_asks, number_field, read_listing, read_request, slot_field, with_listing, Reading}
 use Rattle.slots.specs.Clocks.{core_slot}
-use Rattle.slots.specs.declared.CoreSlot.{CoreSlot}
 use Rattle.slots.specs.Limits.{IDS}
 
 -- A number that is read is at most the most.
-pub number_most : (s : List ℕ) (at tag size most : ℕ) {n : ℕ} {next : Cursor} → number_field s at tag size most ≡ number-value n next → n ≤ most
+pub number_most : (s : List ℕ) (at tag size most : ℕ) {n : ℕ} → number_field s at tag size most ≡ Ok n → n ≤ most
 number_most s at tag size most e = (number_range s at tag size most (subst (NumberRead s at tag size most) e (number_read s at tag size most))).0
 
 -- The listing from a place up to an end, with as many fields allowed as bytes stand before the end.
-unfoldable pub listing_at : List ℕ → ℕ → ℕ → ℕ → List Ask → Listing
+unfoldable pub listing_at : List ℕ → ℕ → ℕ → ℕ → List Ask → Reading (List Ask)
 listing_at s end at floor asks = read_listing end s end at floor asks
 
 -- It is the same for the same floor.
@@ -33,15 +28,14 @@ pub listing_floor : (s : List ℕ) (end at n m : ℕ) (asks : List Ask) → n �
 listing_floor s end at n m asks e = rw e
 
 -- What a field leaves of the listing: the rest with what it lists, or its refusal.
-unfoldable pub listing_after : List ℕ → ℕ → List Ask → ListedField → Listing
-listing_after s end asks (listed-value l next) =
-    listing_at s end next.at (suc l.id) (set asks l.id (record { period = l.period; bound = l.bound }))
-listing_after s end asks (listed-refused r) = record { reading = Refused r; asks = asks }
+unfoldable pub listing_after : List ℕ → ℕ → List Ask → Reading Listed → Reading (List Ask)
+listing_after s end asks (Ok l) = listing_at s end l.next (suc l.id) (set asks l.id l.ask)
+listing_after s end asks (Err r) = Err r
 
 -- A field that is read lists an id in range, and ends ahead.
-unfoldable pub Ahead : ℕ → ListedField → Type 0
-Ahead at (listed-value l next) = (l.id < IDS) × (at < next.at)
-Ahead at (listed-refused r) = ℕ
+unfoldable pub Ahead : ℕ → Reading Listed → Type 0
+Ahead at (Ok l) = (l.id < IDS) × (at < l.next)
+Ahead at (Err r) = ℕ
 
 module _ (s : List ℕ) (at floor : ℕ) where
   -- Past its form and its range a field is tested for its id.
@@ -52,56 +46,44 @@ module _ (s : List ℕ) (at floor : ℕ) where
   listed_tested (ListedForm.short p q) e = rw (p, q, e)
 
   -- A field that is read is ahead.
-  pub listed_ahead : (f : ListedField) → listed_field s at floor ≡ f → Ahead at f
+  pub listed_ahead : (f : Reading Listed) → listed_field s at floor ≡ f → Ahead at f
   unfolding Ahead
   listed_ahead f e = subst (Ahead at) e (by (listed_field s at floor) (listed_read s at floor))
     where
-      by : (f : ListedField) → ListedRead s at floor f → Ahead at f
-      by (listed-refused r) g = 0
-      by (listed-value l next) (ListedRead.value p q k) = let r = listed_range s at p q in (r.id_range, r.ahead)
+      by : (f : Reading Listed) → ListedRead s at floor f → Ahead at f
+      by (Err r) g = 0
+      by (Ok l) (ListedRead.value p q k) = let r = listed_range s at p q in (r.id_range, r.ahead)
 
   module _ (end : ℕ) (asks : List Ask) where
     -- At the end the listing is whole.
-    pub listing_end : end ≤ at → listing_at s end at floor asks ≡ record { reading = Whole; asks = asks }
+    pub listing_end : end ≤ at → listing_at s end at floor asks ≡ Ok asks
     unfolding listing_at
     listing_end h = listing_is s end end (ListingRead.none {at = at} {floor = floor} h) (omega arith)
 
     -- Before it a field is read, and the listing is what the field leaves.
-    pub listing_step : at < end → (f : ListedField) → listed_field s at floor ≡ f → listing_at s end at floor asks ≡ listing_after s end asks f
+    pub listing_step : at < end → (f : Reading Listed) → listed_field s at floor ≡ f → listing_at s end at floor asks ≡ listing_after s end asks f
     unfolding listing_at listing_after
     listing_step h f e = by (listed_field s at floor) (listed_read s at floor) ∙ ap (listing_after s end asks) e
       where
-        by : (f : ListedField) → ListedRead s at floor f → listing_at s end at floor asks ≡ listing_after s end asks f
-        by (listed-refused r) g = listing_is s end end (ListingRead.stop h g) (omega arith)
-        by (listed-value l next) (ListedRead.value p q k) =
+        by : (f : Reading Listed) → ListedRead s at floor f → listing_at s end at floor asks ≡ listing_after s end asks f
+        by (Err r) g = listing_is s end end (ListingRead.stop h g) (omega arith)
+        by (Ok l) (ListedRead.value p q k) =
             listing_is s end end (ListingRead.more h p q k (listing_read s end end _ _ _ (omega arith))) (omega arith)
-
-module _ (slot : CoreSlot) (limit : ℕ) (listing : Listing) where
-  -- A whole listing makes a whole request.
-  pub listing_whole : listing.reading ≡ Whole
-      → with_listing slot limit listing ≡ record { reading = Whole; request = record { slot = slot; limit = limit; asks = listing.asks } }
-  unfolding with_listing
-  listing_whole e = rw (e, with_listing)
-
-  -- A refused listing makes a refused request.
-  pub listing_refused : (r : Refusal) → listing.reading ≡ Refused r → with_listing slot limit listing ≡ refused_request r
-  unfolding with_listing
-  listing_refused r e = rw (e, with_listing)
 
 module _ (s : List ℕ) where
   -- A request whose first field is refused.
-  pub request_no_slot : (r : Refusal) → slot_field s 0 ≡ number-refused r → read_request s ≡ refused_request r
+  pub request_no_slot : (r : Refusal) → slot_field s 0 ≡ Err r → read_request s ≡ Err r
   unfolding read_request
   request_no_slot r e = rw (e, read_request)
 
-  module _ (slot : ℕ) (next : Cursor) (e : slot_field s 0 ≡ number-value slot next) where
+  module _ (slot : ℕ) (e : slot_field s 0 ≡ Ok slot) where
     -- A request whose second field is refused.
-    pub request_no_limit : (r : Refusal) → limit_field s next.at ≡ number-refused r → read_request s ≡ refused_request r
+    pub request_no_limit : (r : Refusal) → limit_field s 11 ≡ Err r → read_request s ≡ Err r
     unfolding read_request
     request_no_limit r f = rw (e, read_request, f)
 
     -- A request whose first two fields are read.
-    pub request_listing : (limit : ℕ) (third : Cursor) → limit_field s next.at ≡ number-value limit third
-        → read_request s ≡ with_listing (core_slot slot) limit (read_listing (length s) s (length s) third.at 0 no_asks)
+    pub request_listing : (limit : ℕ) → limit_field s 11 ≡ Ok limit
+        → read_request s ≡ with_listing (core_slot slot) limit (read_listing (length s) s (length s) 15 0 no_asks)
     unfolding read_request
-    request_listing limit third f = rw (e, read_request, f)
+    request_listing limit f = rw (e, read_request, f)

@@ -1,6 +1,7 @@
 -- A number that is read byte by byte, one byte more, and how large it grows; and one that is stored from its low byte up. Assumes nothing.
-use lib.ListN.{get_or, set}
-use lib.Seq.{sets}
+use lib.ListN.{drop, get_or, length, set, take}
+use lib.Seq.{get_or-drop, sets}
+use Rattle.std.proofs.lemmas.List.{get_or-take, length-take}
 use mathlib.Core.List.{List}
 use mathlib.Core.Path.{◌≡◌, ◌∙◌}
 use native.Mathlib.Nat.{pow-suc, pow-le-pow_right}
@@ -29,6 +30,14 @@ module _ (s : List ℕ) (from : ℕ) where
     -- While fewer than 8 bytes are read, one more still fits 64 bits.
     pub number_room : (n : ℕ) → n < 8 → 256 * number_at s from n + 255 < 2 ^ 64
     number_room n h = omega (arith, number_below n, pow-le-pow_right {n = 256} (omega arith) {i = n} {j = 7} (omega arith))
+
+-- A byte of the run from one place to another is one of the list.
+pub byte_of : (s : List ℕ) (from count n : ℕ) → n < length (take (from + count - from) (drop from s))
+    → (n < count) × (get_or (take (from + count - from) (drop from s)) n 0 ≡ get_or s (from + n) 0)
+byte_of s from count n h =
+    let m : from + count - from ≡ count = omega arith in
+    let k : n < count = omega (arith, length-take (from + count - from) (drop from s)) in
+    (k, get_or-take (from + count - from) (drop from s) n 0 (omega arith) ∙ get_or-drop from s n 0)
 
 -- The low byte of a number, then the bytes above it.
 pub number_put : (l : List ℕ) (at m v : ℕ) → 0 < m

@@ -10,6 +10,10 @@ use mathlib.Core.Option.{some}
 use mathlib.Core.Path.{◌≡◌, refl, sym, ap, ◌∙◌}
 use native.Mathlib.Omega.{arith}
 use Prim.Native.Nat.{ℕ, suc, ◌+◌, ◌^◌, ◌≤◌, ◌<◌}
+use Rattle.std.specs.Prelude.{Ok}
+use Rattle.std.specs.Result.{IfOk}
+use Rattle.std.proofs.lemmas.Result.{IfOk-at_ok, IfOk-weaker}
+use Rattle.records.specs.declared.Request.{Request}
 use Rattle.records.proofs.FieldBytes.{bytes_at, field_cut, number_cut}
 use Rattle.records.proofs.FieldLaws.{ListedForm}
 use Rattle.records.proofs.ReadLaws.{no_ask_lem}
@@ -17,11 +21,8 @@ use Rattle.records.proofs.ReadSteps.{ListingRead, RequestRead, listed_range, req
 use Rattle.records.proofs.RisingLaws.{EmptyFrom, empty_above, rising_above}
 use Rattle.records.specs.Answer.{field, rising}
 use Rattle.records.specs.declared.Ask.{Ask}
-use Rattle.records.specs.declared.Listing.{Listing}
-use Rattle.records.specs.declared.Reading.TheVariants.{Whole}
-use Rattle.records.specs.declared.ReadRequest.{ReadRequest}
 pub use Rattle.records.specs.Reads.{Bytes}
-use Rattle.records.specs.Request.{ask_of, content_at, is_asked, is_listing, no_ask, no_asks, read_request, refused_request}
+use Rattle.records.specs.Request.{ask_of, content_at, is_asked, is_listing, no_ask, no_asks, read_request, ReadRequest, Reading}
 use Rattle.records.specs.Written.{exponent_of, listed_bytes, listing_bytes, number_bytes, request_record}
 use Rattle.slots.proofs.Below.{and_both, some_first}
 use Rattle.slots.specs.Below.{first}
@@ -76,21 +77,23 @@ module _ (asks : List Ask) (id : ℕ) (a : Ask) where
   pub fresh_above : Fresh id asks → Fresh (suc id) (set asks id a)
   fresh_above = empty_above no_ask asks id a
 
--- A listing that is read whole is written behind what was listed before.
-listing_form : (s : List ℕ) {at floor : ℕ} {asks : List Ask} {x : Listing} → ListingRead s (length s) at floor asks x → x.reading ≡ Whole
-    → length asks ≡ IDS → Fresh floor asks → listing_bytes x.asks IDS ≡ listing_bytes asks IDS ++ drop at s
-listing_form s (ListingRead.none {asks = asks} h) e c f = rw (drop_of_length-le s h) (sym (append-nil (listing_bytes asks IDS)))
-listing_form s (ListingRead.stop h r) e c f = absurd (let k : ◌≡◌ {A = ℕ} 0 1 = cc in omega arith)
-listing_form s (ListingRead.more {at = at} {next = next} {bound = bound} {asks = asks} h t r k d) e c f =
+-- A listing that is read is written behind what was listed before.
+listing_form : (s : List ℕ) {at floor : ℕ} {asks : List Ask} {x : Reading (List Ask)} → ListingRead s (length s) at floor asks x
+    → length asks ≡ IDS → Fresh floor asks → IfOk x (λ all. listing_bytes all IDS ≡ listing_bytes asks IDS ++ drop at s)
+listing_form s (ListingRead.none {asks = asks} h) c f = rw (drop_of_length-le s h) (sym (append-nil (listing_bytes asks IDS)))
+listing_form s (ListingRead.stop h r) c f = tt
+listing_form s (ListingRead.more {at = at} {next = next} {bound = bound} {asks = asks} {x = x} h t r k d) c f =
     let id = content_at s at 0 in
     let a : Ask = record { period = 2 ^ content_at s at 1; bound = bound } in
     let l = listed_range s at t r in
     let g : Fresh id asks = λ i j. f i (omega arith) in
-    listing_form s d e (length-set asks id a ∙ c) (fresh_above asks id a g)
+    IfOk-weaker x _ _
+    (λ all e. e
     ∙ ap (λ (z : List ℕ). z ++ drop next s)
     (listing_above asks id a (omega (arith, l.id_range)) (lt-ltb _ _ (pow_pos (content_at s at 1))) g IDS l.id_range)
     ∙ append_assoc (listing_bytes asks IDS) (listed_bytes id a) (drop next s)
-    ∙ ap (λ (z : List ℕ). listing_bytes asks IDS ++ z) (sym (listed_cut s at t r))
+    ∙ ap (λ (z : List ℕ). listing_bytes asks IDS ++ z) (sym (listed_cut s at t r)))
+    (listing_form s d (length-set asks id a ∙ c) (fresh_above asks id a g))
 
 -- Where nothing is listed nothing is written.
 pub nothing_listed : listing_bytes no_asks IDS ≡ []
@@ -98,17 +101,17 @@ unfolding rising
 nothing_listed = refl
 
 -- A record that is read is the one form of what it says, and nothing follows.
-pub one_form : (s : List ℕ) → Bytes s → (read_request s).reading ≡ Whole → s ≡ request_record (read_request s).request
-unfolding request_record refused_request
-one_form s bytes = at (read_request s) (request_read s)
+pub one_form : (s : List ℕ) (q : Request) → Bytes s → read_request s ≡ Ok q → s ≡ request_record q
+unfolding request_record
+one_form s q bytes e = IfOk-at_ok (λ (x : Request). s ≡ request_record x) e (at (read_request s) (request_read s))
   where
-    at : (x : ReadRequest) → RequestRead s x → x.reading ≡ Whole → s ≡ request_record x.request
-    at x (RequestRead.no_slot a) e = absurd (let k : ◌≡◌ {A = ℕ} 0 1 = cc in omega arith)
-    at x (RequestRead.no_limit a b) e = absurd (let k : ◌≡◌ {A = ℕ} 0 1 = cc in omega arith)
-    at x (RequestRead.no_listing a b c) e = absurd (let k : ◌≡◌ {A = ℕ} 0 1 = cc in omega arith)
-    at x (RequestRead.whole {slot = n} {limit = t} a b c) e =
+    at : (x : ReadRequest) → RequestRead s x → IfOk x (λ (y : Request). s ≡ request_record y)
+    at x (RequestRead.no_slot a) = tt
+    at x (RequestRead.no_limit a b) = tt
+    at x (RequestRead.no_listing a b c) = tt
+    at x (RequestRead.whole {slot = n} {limit = t} a b c) =
         let slot = field 1 (number_bytes n 8) in
         let limit = field 2 (number_bytes t 1) in
-        let rest = sym (listing_form s c e refl (λ i h. no_ask_lem i) ∙ ap (λ (z : List ℕ). z ++ drop 15 s) nothing_listed) in
+        let rest = sym (listing_form s c refl (λ i h. no_ask_lem i) ∙ ap (λ (z : List ℕ). z ++ drop 15 s) nothing_listed) in
         number_cut s bytes 0 1 8 _ (omega arith) a ∙ ap (λ (z : List ℕ). slot ++ z) (number_cut s bytes 11 2 1 _ (omega arith) b)
         ∙ sym (append_assoc slot limit (drop 15 s)) ∙ ap (λ (z : List ℕ). slot ++ limit ++ z) rest

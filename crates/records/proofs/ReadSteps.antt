@@ -2,24 +2,19 @@
 use borrow.Author.Tests.{leb-true, leb-false, lt-leb, le-leb, ltb-true, eqb-true}
 use lib.Dec.{leb, ltb}
 use lib.ListN.{get_or, length}
-use mathlib.Core.Bool.{Bool, true, false}
+use mathlib.Core.Bool.{Bool, true, false, false≢true}
 use mathlib.Core.List.{List}
-use mathlib.Core.Path.{◌≡◌, refl, sym, subst}
+use mathlib.Core.Path.{◌≡◌, refl, sym, ap, subst}
 use native.Mathlib.Omega.{arith}
 use Prim.Native.Nat.{ℕ, zero, suc, ◌+◌, ◌≤◌, ◌<◌}
+use Rattle.std.specs.Prelude.{Ok, Err}
+use Rattle.std.specs.Result.{IsOk}
+use Rattle.records.specs.declared.Listed.{Listed}
+use Rattle.records.specs.declared.Request.{Request}
 use Rattle.records.proofs.FieldLaws.{NumberRead, ListedForm, ListedRead, number_read, number_is, listed_read, listed_is}
 use Rattle.records.specs.declared.Ask.{Ask}
-use Rattle.records.specs.declared.Cursor.{Cursor}
-use Rattle.records.specs.declared.ListedField.{ListedField}
-use Rattle.records.specs.declared.ListedField.TheVariants.{Value as listed-value, Refused as listed-refused}
-use Rattle.records.specs.declared.Listing.{Listing}
-use Rattle.records.specs.declared.NumberField.{NumberField}
-use Rattle.records.specs.declared.NumberField.TheVariants.{Value as number-value, Refused as number-refused}
-use Rattle.records.specs.declared.Reading.{Reading}
-use Rattle.records.specs.declared.Reading.TheVariants.{Whole, Refused}
-use Rattle.records.specs.declared.ReadRequest.{ReadRequest}
 pub use Rattle.records.specs.Reads.{ListingRead, none, more, stop, SlotRead, LimitRead, RequestRead, no_slot, no_limit, no_listing, whole}
-use Rattle.records.specs.Request.{content_at, is_field, is_listing, length_at, limit_field, listed_field, no_asks, read_listing, read_request, slot_field, with_listing}
+use Rattle.records.specs.Request.{content_at, is_field, is_listing, length_at, limit_field, listed_field, no_asks, read_listing, read_request, requested, slot_field, with_listing, ReadRequest, Reading}
 use Rattle.slots.proofs.Below.{and_both}
 use Rattle.slots.specs.Limits.{IDS, LARGEST_BOUND, LARGEST_K, LAST_SLOT, LONGEST}
 use Rattle.timetable.specs.Sound.{is_bound}
@@ -41,7 +36,7 @@ field_inside s at tag size e =
     (leb-true _ _ b.0, eqb-true _ _ b.1, eqb-true _ _ a.1)
 
 -- A number that was read is at most the most, and its field ends inside the record.
-pub number_range : (s : List ℕ) (at tag size most : ℕ) {n : ℕ} {next : Cursor} → NumberRead s at tag size most (number-value n next)
+pub number_range : (s : List ℕ) (at tag size most : ℕ) {n : ℕ} → NumberRead s at tag size most (Ok n)
     → (n ≤ most) × (at + 3 + size ≤ length s)
 number_range s at tag size most (NumberRead.value p q) = (q, (field_inside s at tag size p).0)
 
@@ -76,16 +71,16 @@ listing_read s end zero at floor asks h = none {at = at} (omega arith)
 listing_read s end (suc most) at floor asks h =
     go (leb end at) refl (listed_field s at floor) refl (listed_read s at floor) (λ n f a k. listing_read s end most n f a k)
   where
-    go : (b : Bool) → leb end at ≡ b → (f : ListedField) → listed_field s at floor ≡ f → ListedRead s at floor f
+    go : (b : Bool) → leb end at ≡ b → (f : Reading Listed) → listed_field s at floor ≡ f → ListedRead s at floor f
         → ((next floor : ℕ) (asks : List Ask) → end ≤ next + most → ListingRead s end next floor asks (read_listing most s end next floor asks))
         → ListingRead s end at floor asks (read_listing (suc most) s end at floor asks)
     go true e f w g ih = rw (e, read_listing) (none (leb-true _ _ e))
-    go false e (listed-refused r) w g ih = rw (e, read_listing, w) (stop (leb-false _ _ e) g)
-    go false e (listed-value l next) w (ListedRead.value p q k) ih =
+    go false e (Err r) w g ih = rw (e, read_listing, w) (stop (leb-false _ _ e) g)
+    go false e (Ok l) w (ListedRead.value p q k) ih =
         rw (e, read_listing, w) (more (leb-false _ _ e) p q k (ih _ _ _ (omega (arith, (listed_range s at p q).ahead))))
 
 -- Reading a listing gives what its steps say.
-pub listing_is : (s : List ℕ) (end most : ℕ) {at floor : ℕ} {asks : List Ask} {x : Listing} → ListingRead s end at floor asks x → end ≤ at + most
+pub listing_is : (s : List ℕ) (end most : ℕ) {at floor : ℕ} {asks : List Ask} {x : Reading (List Ask)} → ListingRead s end at floor asks x → end ≤ at + most
     → read_listing most s end at floor asks ≡ x
 unfolding read_listing
 listing_is s end zero (none h) l = refl
@@ -114,24 +109,32 @@ as_read P s x e = subst P (sym (request_is s x e))
 pub read_alike : (P : ReadRequest → Type 0) (s : List ℕ) (x y : ReadRequest) → RequestRead s x → RequestRead s y → P x → P y
 read_alike P s x y d e p = subst P (request_is s y e) (as_read P s x d p)
 
+-- A request that was read is what it asks.
+pub read_requested : (x : ReadRequest) → IsOk x → x ≡ Ok (requested x)
+unfolding requested
+read_requested (Ok q) e = refl
+read_requested (Err r) e = absurd (false≢true e)
+
+-- What a request asks that was read.
+pub requested_read : {x : ReadRequest} {q : Request} → x ≡ Ok q → requested x ≡ q
+unfolding requested
+requested_read e = ap requested e
+
 -- A request is read so.
 pub request_read : (s : List ℕ) → RequestRead s (read_request s)
 request_read s = let r = from_slot (slot_field s 0) (number_read s 0 1 8 LAST_SLOT) in subst (RequestRead s) (sym (request_is s _ r.1)) r.1
   where
-    from_listing : (slot limit : ℕ) (d : Reading) (asks : List Ask) → SlotRead s 0 (number-value slot (record { at = 11 }))
-        → LimitRead s 11 (number-value limit (record { at = 15 })) → ListingRead s (length s) 15 0 no_asks (record { reading = d; asks = asks })
-        → (x : ReadRequest) × RequestRead s x
-    from_listing slot limit Whole asks a b c = (_, whole a b c)
-    from_listing slot limit (Refused r) asks a b c = (_, no_listing a b c)
+    from_listing : (slot limit : ℕ) (d : Reading (List Ask)) → SlotRead s 0 (Ok slot) → LimitRead s 11 (Ok limit)
+        → ListingRead s (length s) 15 0 no_asks d → (x : ReadRequest) × RequestRead s x
+    from_listing slot limit (Ok asks) a b c = (_, whole a b c)
+    from_listing slot limit (Err r) a b c = (_, no_listing a b c)
 
-    from_limit : (slot : ℕ) (f : NumberField) → SlotRead s 0 (number-value slot (record { at = 11 })) → LimitRead s 11 f
-        → (x : ReadRequest) × RequestRead s x
-    from_limit slot (number-refused r) a b = (_, no_limit a b)
-    from_limit slot (number-value limit next) a (NumberRead.value p q) =
-        let x = read_listing (length s) s (length s) 15 0 no_asks in
-        from_listing slot limit x.reading x.asks a (NumberRead.value p q) (listing_read s (length s) (length s) 15 0 no_asks (omega arith))
+    from_limit : (slot : ℕ) (f : Reading ℕ) → SlotRead s 0 (Ok slot) → LimitRead s 11 f → (x : ReadRequest) × RequestRead s x
+    from_limit slot (Err r) a b = (_, no_limit a b)
+    from_limit slot (Ok limit) a b =
+        from_listing slot limit (read_listing (length s) s (length s) 15 0 no_asks) a b
+        (listing_read s (length s) (length s) 15 0 no_asks (omega arith))
 
-    from_slot : (f : NumberField) → SlotRead s 0 f → (x : ReadRequest) × RequestRead s x
-    from_slot (number-refused r) a = (_, no_slot a)
-    from_slot (number-value slot next) (NumberRead.value p q) =
-        from_limit slot (limit_field s 11) (NumberRead.value p q) (number_read s 11 2 1 LONGEST)
+    from_slot : (f : Reading ℕ) → SlotRead s 0 f → (x : ReadRequest) × RequestRead s x
+    from_slot (Err r) a = (_, no_slot a)
+    from_slot (Ok slot) a = from_limit slot (limit_field s 11) a (number_read s 11 2 1 LONGEST)

@@ -8,6 +8,7 @@ use mathlib.Core.Logic.{inl, inr}
 use mathlib.Core.Path.{◌≡◌, refl, sym, ap, ap₂, ◌∙◌, subst, subst₂}
 use native.Mathlib.Omega.{arith}
 use Prim.Native.Nat.{ℕ, zero, suc, ◌+◌, ◌^◌, ◌≤◌, ◌<◌}
+use Rattle.std.specs.Prelude.{Ok}
 use Rattle.records.proofs.FieldLaws.{NumberRead, ListedForm}
 use Rattle.records.proofs.FieldStands.{after_stands, content_from, content_stands, field_stands, no_other_length, number_length, number_stands, stands_inside}
 use Rattle.records.proofs.OneForm.{asked_bytes, exponent_power}
@@ -16,8 +17,6 @@ use Rattle.records.proofs.ReadSteps.{ListingRead, RequestRead, request_is}
 use Rattle.records.proofs.RisingLaws.{FilledTo, filled_all, filled_next, filled_same, rising_split, rising_from}
 use Rattle.records.specs.Answer.{field, rising}
 use Rattle.records.specs.declared.Ask.{Ask}
-use Rattle.records.specs.declared.NumberField.TheVariants.{Value as number-value}
-use Rattle.records.specs.declared.Reading.TheVariants.{Whole}
 use Rattle.records.specs.declared.Request.{Request}
 use Rattle.records.specs.Request.{ask_of, content_at, is_asked, is_listing, no_ask, no_asks, read_request}
 use Rattle.records.specs.Written.{exponent_of, listed_bytes, listing_bytes, number_bytes, request_record}
@@ -27,12 +26,12 @@ use Rattle.timetable.specs.Sound.{is_bound}
 
 -- A written number is read back, and what follows it stands at the next place.
 number_back : (s : List ℕ) (at tag size most n : ℕ) (rest : List ℕ) → n ≤ most → n < 256 ^ size → drop at s ≡ field tag (number_bytes n size) ++ rest
-    → NumberRead s at tag size most (number-value n (record { at = at + 3 + size })) × (drop (at + 3 + size) s ≡ rest)
+    → NumberRead s at tag size most (Ok n) × (drop (at + 3 + size) s ≡ rest)
 number_back s at tag size most n rest h small e =
     let content = number_bytes n size in
     let l = number_length n size in
     let k = number_stands s (at + 3) size n rest small (content_from s at tag content rest e) in (
-      subst (λ (x : ℕ). NumberRead s at tag size most (number-value x (record { at = at + 3 + size }))) k
+      subst (λ (x : ℕ). NumberRead s at tag size most (Ok x)) k
           (NumberRead.value (rw l at (field_stands s at tag content rest e)) (omega arith)),
       after_stands s at tag content rest e (at + 3 + size) (omega arith),
     )
@@ -123,20 +122,20 @@ asked a (inr r) e = r
 module _ (s : List ℕ) (all : List Ask) (range : AsksRange all) where
   -- A written listing is read back from any id on.
   listing_whole : (n at floor low : ℕ) (asks : List Ask) → floor + n ≡ IDS → low ≤ floor → FilledTo no_ask all floor asks
-      → drop at s ≡ rising_from (asked_bytes all) floor n → ListingRead s (length s) at low asks (record { reading = Whole; asks = all })
+      → drop at s ≡ rising_from (asked_bytes all) floor n → ListingRead s (length s) at low asks (Ok all)
   unfolding rising_from
   listing_whole zero at floor low asks m l r e =
       let same : asks ≡ all = filled_all no_ask all asks floor r (omega (arith, range.count)) in
-      subst (λ (x : List Ask). ListingRead s (length s) at low x (record { reading = Whole; asks = all })) (sym same)
+      subst (λ (x : List Ask). ListingRead s (length s) at low x (Ok all)) (sym same)
       (ListingRead.none {at = at} (omega (arith, length-drop at s, ap (λ (x : List ℕ). length x) e)))
   listing_whole (suc n) at floor low asks m l r e =
       by (is_asked (ask_of all floor)) refl (λ k j x. listing_whole n k (suc floor) j x (omega arith)) e
     where
       by : (t : Bool) → is_asked (ask_of all floor) ≡ t
           → ((k j : ℕ) (x : List Ask) → j ≤ suc floor → FilledTo no_ask all (suc floor) x → drop k s ≡ rising_from (asked_bytes all) (suc floor) n
-          → ListingRead s (length s) k j x (record { reading = Whole; asks = all }))
+          → ListingRead s (length s) k j x (Ok all))
           → drop at s ≡ cond t (listed_bytes floor (ask_of all floor)) [] ++ rising_from (asked_bytes all) (suc floor) n
-          → ListingRead s (length s) at low asks (record { reading = Whole; asks = all })
+          → ListingRead s (length s) at low asks (Ok all)
       by false q rest e =
           let none = not_asked (ask_of all floor) (range.each floor (omega arith)) q in
           rest at low asks (omega arith) (filled_same no_ask all asks floor r none) e
@@ -145,14 +144,14 @@ module _ (s : List ℕ) (all : List Ask) (range : AsksRange all) where
           let p = asked a (range.each floor (omega arith)) q in
           let w = listed_back s at floor a (rising_from (asked_bytes all) (suc floor) n) (omega arith) p.0 p.1 e in
           ListingRead.more {floor = low} w.ahead w.form w.in_range (omega (arith, w.id_back))
-          (subst₂ (λ (i : ℕ) (b : Ask). ListingRead s (length s) w.next (suc i) (set asks i b) (record { reading = Whole; asks = all }))
+          (subst₂ (λ (i : ℕ) (b : Ask). ListingRead s (length s) w.next (suc i) (set asks i b) (Ok all))
           (sym w.id_back)
           (sym w.ask_back)
           (rest w.next (suc floor) (set asks floor a) (omega arith)
           (filled_next no_ask all asks floor r a (omega (arith, r.count, range.count)) refl) w.after))
 
--- A request in range, as it is written, is read back whole.
-pub round_trip : (r : Request) → RequestRange r → read_request (request_record r) ≡ record { reading = Whole; request = r }
+-- A request in range, as it is written, is read back.
+pub round_trip : (r : Request) → RequestRange r → read_request (request_record r) ≡ Ok r
 unfolding request_record rising
 round_trip r range =
     let s = request_record r in

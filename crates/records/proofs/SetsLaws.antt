@@ -2,13 +2,12 @@
 use borrow.Rule.Slice.PartMut.{put_mid}
 use lib.ListN.{drop, get_or, length, set, take}
 use lib.Seq.{drop-drop, drop-length, get_or-set_other, length-take-le, set_comm, sets, sets-eq, take_at, take-suc}
-use mathlib.Core.List.{List, [], ◌∷◌, ◌++◌, append-nil}
+use mathlib.Core.List.{List, [], ◌∷◌, ◌++◌, append_assoc, append-nil}
 use mathlib.Core.Path.{◌≡◌, refl, sym, ap, ◌∙◌}
-use Rattle.std.proofs.Common.{append_assoc}
 use native.Mathlib.Nat.{add-zero, zero-add}
 use native.Mathlib.Numerals.{add-one}
 use native.Mathlib.Omega.{arith}
-use Prim.Native.Nat.{ℕ, suc, ◌+◌, ◌≤◌, ◌<◌}
+use Prim.Native.Nat.{ℕ, suc, ◌+◌, ◌-◌, ◌≤◌, ◌<◌}
 
 -- A run, then one that starts where it ends, is one run.
 pub sets_then : (l : List ℕ) (i k : ℕ) (vs ws : List ℕ) → k ≡ i + length vs → sets (sets l i vs) k ws ≡ sets l i (vs ++ ws)
@@ -55,3 +54,9 @@ sets_taken l vs n e h = ap (take n) (sets_front l vs (omega arith)) ∙ take_at 
 -- A run over the whole of a list leaves nothing of it.
 pub sets_all : (l vs : List ℕ) → length vs ≡ length l → sets l 0 vs ≡ vs
 sets_all l vs e = sets_front l vs (omega arith) ∙ rw (e, drop-length l) (append-nil vs)
+
+-- A run that was copied into a part of a list.
+pub copied_in : (l ys zs : List ℕ) (a e : ℕ) → ys ≡ zs → e ≡ a + length zs → e ≤ length l → put_mid a (e - a) l ys ≡ sets l a zs
+copied_in l ys zs a e p q h =
+    let n : e - a ≡ length zs = omega arith in
+    rw (p, n, drop-drop (length zs) a l) (sym (sets-eq zs l a (omega arith) ∙ append_assoc (take a l) zs (drop (a + length zs) l)))

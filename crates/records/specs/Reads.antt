@@ -1,75 +1,63 @@
 -- docs/RULES.md 6 and 7.1: when a field is read and when it is refused, and what is read, as statements.
-use Rattle.std.specs.Prelude.{get_or, length, set, Bool, true, false, ◌&&◌, List, ◌⊎◌, ◌≡◌, ℕ, suc, ◌+◌, ◌^◌, ◌≤◌, ◌<◌}
+use Rattle.std.specs.Prelude.{get_or, length, set, Bool, true, false, ◌&&◌, List, ◌⊎◌, ◌≡◌, ℕ, suc, ◌+◌, ◌^◌, ◌≤◌, ◌<◌, Ok, Err}
 use Rattle.records.specs.declared.Ask.{Ask}
-use Rattle.records.specs.declared.ListedField.{ListedField}
-use Rattle.records.specs.declared.ListedField.TheVariants.{Value as listed-value, Refused as listed-refused}
-use Rattle.records.specs.declared.Listing.{Listing}
-use Rattle.records.specs.declared.NumberField.{NumberField}
-use Rattle.records.specs.declared.NumberField.TheVariants.{Value as number-value, Refused as number-refused}
-use Rattle.records.specs.declared.Reading.TheVariants.{Whole, Refused}
-use Rattle.records.specs.declared.ReadRequest.{ReadRequest}
+use Rattle.records.specs.declared.Listed.{Listed}
 use Rattle.numbers.specs.declared.Refusal.{Refusal}
 use Rattle.records.specs.declared.Request.{Request}
 use Rattle.numbers.specs.Numbers.{BAD_FIELD, OUT_OF_RANGE, NOT_RISING}
-use Rattle.records.specs.Request.{ask_of, content_at, is_field, is_listing, no_asks, number_at, refused_request}
+use Rattle.records.specs.Request.{ask_of, content_at, is_field, is_listing, no_asks, number_at, ReadRequest, Reading}
 use Rattle.slots.specs.Clocks.{core_slot}
 use Rattle.slots.specs.Limits.{IDS, LAST_SLOT, LONGEST, LARGEST_BOUND}
 use Rattle.timetable.specs.Sound.{Period, is_bound}
 
--- What a field that holds a number gives: 3 for its form, then 4 for its value, then the number and the place after it.
-pub data NumberRead (s : List ℕ) (at tag size most : ℕ) : NumberField → Type 0 where
-  wrong : is_field s at tag size ≡ false → NumberRead s at tag size most (number-refused (record { number = BAD_FIELD; place = at }))
+-- What a field that holds a number gives: 3 for its form, then 4 for its value, then the number.
+pub data NumberRead (s : List ℕ) (at tag size most : ℕ) : Reading ℕ → Type 0 where
+  wrong : is_field s at tag size ≡ false → NumberRead s at tag size most (Err (record { number = BAD_FIELD; place = at }))
   high : is_field s at tag size ≡ true → most < number_at s (at + 3) size
-      → NumberRead s at tag size most (number-refused (record { number = OUT_OF_RANGE; place = at }))
-  value : is_field s at tag size ≡ true → number_at s (at + 3) size ≤ most
-      → NumberRead s at tag size most (number-value (number_at s (at + 3) size) (record { at = at + 3 + size }))
+      → NumberRead s at tag size most (Err (record { number = OUT_OF_RANGE; place = at }))
+  value : is_field s at tag size ≡ true → number_at s (at + 3) size ≤ most → NumberRead s at tag size most (Ok (number_at s (at + 3) size))
 
 -- The two forms of a tag 3 field, each with the place after it, its bound and whether its values are in range.
 pub data ListedForm (s : List ℕ) (at : ℕ) : ℕ → ℕ → Bool → Type 0 where
   long : is_field s at 3 3 ≡ true → ListedForm s at (at + 6) (content_at s at 2) (is_listing s at && is_bound (content_at s at 2))
   short : is_field s at 3 3 ≡ false → is_field s at 3 2 ≡ true → ListedForm s at (at + 5) 0 (is_listing s at)
 
--- What a tag 3 field gives: 3 for its form, then 4 for its values, then 5 for its id, then what it lists and the place after it.
-pub data ListedRead (s : List ℕ) (at floor : ℕ) : ListedField → Type 0 where
-  wrong : is_field s at 3 3 ≡ false → is_field s at 3 2 ≡ false → ListedRead s at floor (listed-refused (record { number = BAD_FIELD; place = at }))
+-- What a tag 3 field gives: 3 for its form, then 4 for its values, then 5 for its id, then what it lists, with the place after it.
+pub data ListedRead (s : List ℕ) (at floor : ℕ) : Reading Listed → Type 0 where
+  wrong : is_field s at 3 3 ≡ false → is_field s at 3 2 ≡ false → ListedRead s at floor (Err (record { number = BAD_FIELD; place = at }))
   high : {next bound : ℕ} {range : Bool} → ListedForm s at next bound range → range ≡ false
-      → ListedRead s at floor (listed-refused (record { number = OUT_OF_RANGE; place = at }))
+      → ListedRead s at floor (Err (record { number = OUT_OF_RANGE; place = at }))
   low : {next bound : ℕ} {range : Bool} → ListedForm s at next bound range → range ≡ true → content_at s at 0 < floor
-      → ListedRead s at floor (listed-refused (record { number = NOT_RISING; place = at }))
+      → ListedRead s at floor (Err (record { number = NOT_RISING; place = at }))
   value : {next bound : ℕ} {range : Bool} → ListedForm s at next bound range → range ≡ true → floor ≤ content_at s at 0
       → ListedRead s at floor
-      (listed-value (record { id = content_at s at 0; period = 2 ^ content_at s at 1; bound = bound }) (record { at = next }))
+      (Ok (record { id = content_at s at 0; ask = record { period = 2 ^ content_at s at 1; bound = bound }; next = next }))
 
 -- How a listing is read from a place up to an end: nothing is ahead, or a field and the rest, or a field that is refused.
-pub data ListingRead (s : List ℕ) (end : ℕ) : ℕ → ℕ → List Ask → Listing → Type 0 where
-  none : {at floor : ℕ} {asks : List Ask} → end ≤ at → ListingRead s end at floor asks (record { reading = Whole; asks = asks })
-  more : {at floor next bound : ℕ} {range : Bool} {asks : List Ask} {x : Listing} → at < end → ListedForm s at next bound range
+pub data ListingRead (s : List ℕ) (end : ℕ) : ℕ → ℕ → List Ask → Reading (List Ask) → Type 0 where
+  none : {at floor : ℕ} {asks : List Ask} → end ≤ at → ListingRead s end at floor asks (Ok asks)
+  more : {at floor next bound : ℕ} {range : Bool} {asks : List Ask} {x : Reading (List Ask)} → at < end → ListedForm s at next bound range
       → range ≡ true → floor ≤ content_at s at 0
       → ListingRead s end next (suc (content_at s at 0)) (set asks (content_at s at 0) (record { period = 2 ^ content_at s at 1; bound = bound })) x
       → ListingRead s end at floor asks x
-  stop : {at floor : ℕ} {asks : List Ask} {r : Refusal} → at < end → ListedRead s at floor (listed-refused r)
-      → ListingRead s end at floor asks (record { reading = Refused r; asks = asks })
+  stop : {at floor : ℕ} {asks : List Ask} {r : Refusal} → at < end → ListedRead s at floor (Err r) → ListingRead s end at floor asks (Err r)
 
 -- Tag 1, length 8: the request slot, at most 2^48 - 1.
-abbrev pub SlotRead : List ℕ → ℕ → NumberField → Type 0
+abbrev pub SlotRead : List ℕ → ℕ → Reading ℕ → Type 0
 SlotRead s at = NumberRead s at 1 8 LAST_SLOT
 
 -- Tag 2, length 1: T, 0 to 64.
-abbrev pub LimitRead : List ℕ → ℕ → NumberField → Type 0
+abbrev pub LimitRead : List ℕ → ℕ → Reading ℕ → Type 0
 LimitRead s at = NumberRead s at 2 1 LONGEST
 
 -- How a request is read: the field of the slot, of T, then the listing up to the record's end; the first that is refused ends it.
 pub data RequestRead (s : List ℕ) : ReadRequest → Type 0 where
-  no_slot : {r : Refusal} → SlotRead s 0 (number-refused r) → RequestRead s (refused_request r)
-  no_limit : {slot : ℕ} {r : Refusal} → SlotRead s 0 (number-value slot (record { at = 11 })) → LimitRead s 11 (number-refused r)
-      → RequestRead s (refused_request r)
-  no_listing : {slot limit : ℕ} {asks : List Ask} {r : Refusal} → SlotRead s 0 (number-value slot (record { at = 11 }))
-      → LimitRead s 11 (number-value limit (record { at = 15 }))
-      → ListingRead s (length s) 15 0 no_asks (record { reading = Refused r; asks = asks }) → RequestRead s (refused_request r)
-  whole : {slot limit : ℕ} {asks : List Ask} → SlotRead s 0 (number-value slot (record { at = 11 }))
-      → LimitRead s 11 (number-value limit (record { at = 15 }))
-      → ListingRead s (length s) 15 0 no_asks (record { reading = Whole; asks = asks })
-      → RequestRead s (record { reading = Whole; request = record { slot = core_slot slot; limit = limit; asks = asks } })
+  no_slot : {r : Refusal} → SlotRead s 0 (Err r) → RequestRead s (Err r)
+  no_limit : {slot : ℕ} {r : Refusal} → SlotRead s 0 (Ok slot) → LimitRead s 11 (Err r) → RequestRead s (Err r)
+  no_listing : {slot limit : ℕ} {r : Refusal} → SlotRead s 0 (Ok slot) → LimitRead s 11 (Ok limit)
+      → ListingRead s (length s) 15 0 no_asks (Err r) → RequestRead s (Err r)
+  whole : {slot limit : ℕ} {asks : List Ask} → SlotRead s 0 (Ok slot) → LimitRead s 11 (Ok limit)
+      → ListingRead s (length s) 15 0 no_asks (Ok asks) → RequestRead s (Ok (record { slot = core_slot slot; limit = limit; asks = asks }))
 
 -- An id is not listed, or its period is 2^k and its bound at most 8, which is 0 where its field was short.
 abbrev pub AskRange : Ask → Type 0

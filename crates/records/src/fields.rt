@@ -34,19 +34,10 @@ pub fn number_at(s: &[u8], from: usize, count: usize) -> u64
     ensures { result ≡ number_at s.now from count }
 {
     let mut number: u64 = 0;
-    let mut n: usize = 0;
-    while n < count {
-        number = 256 * number + wide(s[from + n]);
-        n += 1;
+    for b in &s[from..from + count] {
+        number = 256 * number + (*b as u64);
     }
     number
-}
-
-// A byte as a number.
-fn wide(b: u8) -> u64
-    ensures { (result ≡ b) × (result < 256) }
-{
-    b as u64
 }
 
 // Writes the tag and the length of a field. (Public for the writer of requests alone.)
@@ -54,9 +45,7 @@ pub fn put_head(area: &mut [u8], at: usize, tag: u8, size: u8)
     requires { at + 3 ≤ length area.old }
     ensures { area.new ≡ sets area.old at (tag ∷ 0 ∷ size ∷ []) }
 {
-    area[at] = tag;
-    area[at + 1] = 0;
-    area[at + 2] = size;
+    area[at..at + 3].copy_from_slice(&[tag, 0, size]);
 }
 
 // Writes the last `width` bytes of a number, high byte first. (Public for the board's image and the writer of requests alone.)
@@ -64,11 +53,10 @@ pub fn put_number(area: &mut [u8], at: usize, width: usize, number: u64)
     requires { at + width ≤ length area.old }
     ensures { area.new ≡ sets area.old at (number_bytes number width) }
 {
-    let mut left = width;
+    // Not to_be_bytes: the contract holds for every width, above 8 too.
     let mut rest = number;
-    while 0 < left {
-        left -= 1;
-        area[at + left] = (rest % 256) as u8;
+    for n in (0..width).rev() {
+        area[at + n] = (rest % 256) as u8;
         rest /= 256;
     }
 }

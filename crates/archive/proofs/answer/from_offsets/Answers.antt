@@ -1,13 +1,14 @@
 -- The invariant: what is read from `at` on, added to the offsets so far, is what is read from the first place on. Assumes nothing.
-use lib.ListN.{length-replicate, length-set, replicate}
+use lib.ListN.{length-replicate, length-set}
 use mathlib.Core.Bool.{true}
 use mathlib.Core.List.{List}
-use mathlib.Core.Path.{◌≡◌, sym, subst, ◌∙◌}
+use mathlib.Core.Path.{◌≡◌, sym, ◌∙◌}
 use native.Mathlib.Omega.{arith}
 use Prim.Native.Nat.{ℕ}
-use Rattle.archive.proofs.AnswerSteps.{AnswerRead, offset_ends, offset_goes, offset_inside, offset_stops}
-use Rattle.archive.specs.AnswerRead.{no_offset, offset_stands}
-use Rattle.archive.specs.declared.Schedule.{Schedule}
+use Rattle.archive.proofs.AnswerSteps.{offset_ends, offset_goes, offset_inside, offset_stops}
+use Rattle.std.specs.declared.option.Option.{Option}
+use Rattle.std.specs.Prelude.{None}
+use Rattle.archive.specs.AnswerRead.{offset_stands}
 use Rattle.slots.specs.Limits.{IDS}
 use Rattle.archive.proofs.answer.from_offsets.Goals as goal
 
@@ -16,7 +17,7 @@ abbrev Stands : List ℕ → ℕ → Type 0
 Stands s at = offset_stands s at ≡ true
 
 pub loop-id-init : goal.loop-id-init
-loop-id-init c = (c.requires.0, c.requires.1, length-replicate IDS no_offset, λ y d. d)
+loop-id-init c = (c.requires.0, c.requires.1, length-replicate {A = Option ℕ} IDS None, λ y d. d)
 
 pub offset_stands-requires : goal.offset_stands-requires
 offset_stands-requires c = omega (arith, c.loop-id.invariant.0)
@@ -67,8 +68,7 @@ pub returns-then-at-s : goal.returns-then-at-s
 returns-then-at-s c =
     let a = c.args in
     let l = c.loop-id in
-    let x : Schedule = record { length = a.told; owners = a.owners; offsets = replicate IDS no_offset } in
-    subst (AnswerRead a.s.now a.from x) (sym c.refused.ensures)
+    rw c.bad_field.ensures
     (l.invariant.3 _ (offset_stops a.s.now _ l.at l.invariant.0 l.invariant.1 (sym c.offset_stands.ensures ∙ c.loop-id-test.false) c.if-at-s.true))
 
 pub returns : goal.returns

@@ -5,7 +5,8 @@ use mathlib.Core.List.{List}
 use mathlib.Core.Path.{sym, subst, ◌∙◌}
 use Prim.Native.Nat.{ℕ, ◌+◌}
 use Rattle.archive.proofs.AnswerSteps.{AnswerRead, owners_goes, owners_inside, owners_stops}
-use Rattle.archive.specs.AnswerRead.{no_offset, owners_below}
+use Rattle.std.specs.Prelude.{None}
+use Rattle.archive.specs.AnswerRead.{owners_below}
 use Rattle.archive.specs.declared.Schedule.{Schedule}
 use Rattle.slots.specs.Limits.{IDS, LONGEST}
 use mathlib.Core.Bool.{not}
@@ -14,12 +15,12 @@ use Rattle.archive.proofs.answer.from_owners.Goals as goal
 
 -- What was read up to the offsets.
 abbrev ahead : ℕ → List ℕ → Schedule
-ahead told owners = record { length = told; owners = owners; offsets = replicate IDS no_offset }
+ahead told owners = record { length = told; owners = owners; offsets = replicate IDS None }
 
 pub returns-then-not-owners_stand : goal.returns-then-not-owners_stand
 returns-then-not-owners_stand c =
     let a = c.args in
-    subst (AnswerRead a.s.now 4 (ahead a.told (replicate LONGEST 0))) (sym c.refused.ensures)
+    rw c.bad_field.ensures
     (owners_stops a.s.now _ (sym c.owners_stand.ensures ∙ c.if-not-owners_stand.true))
 
 pub owners_of-owners-requires : goal.owners_of-owners-requires

@@ -1,14 +1,14 @@
 -- The step is the one of a length that stands, or the refusal. Assumes nothing.
 use borrow.Author.Tests.{not-false, not-true}
 use mathlib.Core.Path.{sym, ◌∙◌}
-use Rattle.archive.specs.AnswerRead.{length_field}
+use Rattle.archive.specs.AnswerRead.{length_field, refused_at}
 use mathlib.Core.Bool.{not}
 use mathlib.Core.Path.{ap}
 use Rattle.archive.proofs.answer.length_field.Goals as goal
 
 pub returns-then-not-length_stands : goal.returns-then-not-length_stands
-unfolding length_field
-returns-then-not-length_stands c = c.refused_at.ensures ∙ sym (rw (sym c.length_stands.ensures ∙ c.if-not-length_stands.true))
+unfolding length_field refused_at
+returns-then-not-length_stands c = rw c.bad_field.ensures (sym (rw (sym c.length_stands.ensures ∙ c.if-not-length_stands.true)))
 
 pub returns : goal.returns
 unfolding length_field

@@ -5,14 +5,14 @@ use mathlib.Core.Path.{sym, ◌∙◌}
 use native.Mathlib.Omega.{arith}
 use Prim.Native.Nat.{◌+◌, ◌≤◌}
 use Rattle.archive.proofs.AnswerSteps.{offset_inside}
-use Rattle.archive.specs.AnswerRead.{offset_field}
+use Rattle.archive.specs.AnswerRead.{offset_field, refused_at}
 use mathlib.Core.Bool.{not}
 use mathlib.Core.Path.{ap}
 use Rattle.archive.proofs.answer.offset_field.Goals as goal
 
 pub returns-then-not-offset_stands : goal.returns-then-not-offset_stands
-unfolding offset_field
-returns-then-not-offset_stands c = c.refused_at.ensures ∙ sym (rw (sym c.offset_stands.ensures ∙ c.if-not-offset_stands.true))
+unfolding offset_field refused_at
+returns-then-not-offset_stands c = rw c.bad_field.ensures (sym (rw (sym c.offset_stands.ensures ∙ c.if-not-offset_stands.true)))
 
 pub content_at-requires : goal.content_at-requires
 content_at-requires c =

@@ -1,14 +1,14 @@
 -- The step is the one of owners that stand, or the refusal. Assumes nothing.
 use borrow.Author.Tests.{not-false, not-true}
 use mathlib.Core.Path.{sym, ◌∙◌}
-use Rattle.archive.specs.AnswerRead.{owners_field}
+use Rattle.archive.specs.AnswerRead.{owners_field, refused_at}
 use mathlib.Core.Bool.{not}
 use mathlib.Core.Path.{ap}
 use Rattle.archive.proofs.answer.owners_field.Goals as goal
 
 pub returns-then-not-owners_stand : goal.returns-then-not-owners_stand
-unfolding owners_field
-returns-then-not-owners_stand c = c.refused_at.ensures ∙ sym (rw (sym c.owners_stand.ensures ∙ c.if-not-owners_stand.true))
+unfolding owners_field refused_at
+returns-then-not-owners_stand c = rw c.bad_field.ensures (sym (rw (sym c.owners_stand.ensures ∙ c.if-not-owners_stand.true)))
 
 pub returns : goal.returns
 unfolding owners_field

@@ -3,7 +3,7 @@ use borrow.Author.Tests.{not-false, not-true}
 use mathlib.Core.Path.{refl, sym, ◌∙◌}
 use native.Mathlib.Numerals.{add-one}
 use native.Mathlib.Omega.{arith}
-use Rattle.archive.proofs.WriterLaws.{Stop, entry_fails, entry_range, floor_of, reading_is, rise_inside, rise_more, rise_none}
+use Rattle.archive.proofs.WriterLaws.{Stop, entry_fails, entry_range, floor_of, checked_is, rise_inside, rise_more, rise_none}
 use Rattle.archive.specs.Writes.{EntryRange}
 use mathlib.Core.Bool.{not}
 use mathlib.Core.Path.{ap}
@@ -13,13 +13,10 @@ pub loop-n-init : goal.loop-n-init
 unfolding floor_of
 loop-n-init c = (rise_none _, refl)
 
-pub overflow_mul-n : goal.overflow_mul-n
-overflow_mul-n c = omega (arith, rise_inside _ _ c.loop-n.invariant.0)
-
 pub returns-then-not-is_entry : goal.returns-then-not-is_entry
 returns-then-not-is_entry c =
     rw c.of.ensures
-    (reading_is _ _ _ c.loop-n.invariant.0
+    (checked_is _ _ _ c.loop-n.invariant.0
     (Stop.high (omega (arith, c.loop-n-test.true)) (entry_fails _ _ (sym c.is_entry.ensures ∙ c.if-not-is_entry.true))))
 
 pub returns-then-id-floor : goal.returns-then-id-floor
@@ -27,7 +24,7 @@ returns-then-id-floor c =
     let in-range : EntryRange c.args.listing.now c.loop-n.n =
     entry_range _ _ (sym c.is_entry.ensures ∙ c.if-not-is_entry.false) in
     let l = c.loop-n in
-    rw c.of-then-id-floor.ensures (reading_is _ _ _ l.invariant.0 (Stop.low in-range (omega (arith, c.if-id-floor.true, l.invariant.1))))
+    rw c.of-then-id-floor.ensures (checked_is _ _ _ l.invariant.0 (Stop.low in-range (omega (arith, c.if-id-floor.true, l.invariant.1))))
 
 pub overflow_add-floor : goal.overflow_add-floor
 overflow_add-floor c =
@@ -46,4 +43,4 @@ loop-n-preserved c =
 pub returns : goal.returns
 returns c =
     let l = c.loop-n in
-    reading_is _ _ _ l.invariant.0 (Stop.end (omega (arith, rise_inside _ _ l.invariant.0)))
+    checked_is _ _ _ l.invariant.0 (Stop.end (omega (arith, rise_inside _ _ l.invariant.0)))

@@ -2,12 +2,8 @@
 use lib.ListN.{length}
 use lib.Seq.{sets}
 use mathlib.Core.Path.{◌≡◌}
-use Prim.Native.Nat.{◌-◌, ◌≤◌}
 use Rattle.archive.specs.Put.{listing_fields}
 use Rattle.archive.proofs.writer.put_entries.Given as goal
 
 abbrev pub invariant-loop-n : goal.invariant-loop-n
-invariant-loop-n l = (l.n ≤ l.count) × (length l.area ≡ length l.initial.area) × (l.area ≡ sets l.initial.area 15 (listing_fields l.listing l.n))
-
-abbrev pub decreases-loop-n : goal.decreases-loop-n
-decreases-loop-n l = l.count - l.n
+invariant-loop-n l = (length l.area ≡ length l.initial.area) × (l.area ≡ sets l.initial.area 15 (listing_fields l.listing l.n))

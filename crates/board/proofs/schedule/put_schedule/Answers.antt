@@ -4,7 +4,7 @@ use borrow.Rule.Slice.PartMut.{put_mid, same_len_mid}
 use lib.ListN.{length, length-map, length-set, set}
 use mathlib.Core.Path.{◌≡◌, sym, ◌∙◌}
 use native.Mathlib.Omega.{arith}
-use Rattle.archive.specs.AnswerRead.{no_offset}
+use Rattle.std.specs.Prelude.{None}
 use Rattle.board.proofs.Mapped.{mapped_as}
 use Rattle.board.proofs.ScheduleLaws.{schedule_stored}
 use Rattle.board.proofs.StoreLaws.{part_stored}
@@ -25,8 +25,8 @@ returns c =
     length-set c.args.area.now 0 x.length in
     let owners-put = same_len_mid 1 64 l _ c.copy_from_slice.ensures.len in
     let listed-put = same_len_mid 65 32 (put_mid 1 64 l c.copy_from_slice.new.self) _ c.copy_from_slice-2.ensures.len in
-    let listed = mapped_as _ _ _ _ _ c.map.ensures.items offsets-count listed_byte (λ p y q w. search rules) no_offset in
-    let offsets = mapped_as _ _ _ _ _ c.map-2.ensures.items offsets-count offset_byte (λ p y q w. search rules) no_offset in
+    let listed = mapped_as _ _ _ _ _ c.map.ensures.items offsets-count listed_byte (λ p y q w. search rules) None in
+    let offsets = mapped_as _ _ _ _ _ c.map-2.ensures.items offsets-count offset_byte (λ p y q w. search rules) None in
     schedule_stored x owners-count offsets-count c.args.area.now _ _ _
     (part_stored l x.owners _ 1 64 c.copy_from_slice.ensures.after (sym owners-count) (omega arith))
     (part_stored _ _ _ 65 32 (c.copy_from_slice-2.ensures.after ∙ listed) (omega (arith, length-map x.offsets listed_byte)) (omega (arith, length-map x.offsets listed_byte)))

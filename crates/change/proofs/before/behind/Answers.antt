@@ -5,7 +5,7 @@ use mathlib.Core.Path.{◌≡◌, sym, ap, ◌∙◌}
 use native.Mathlib.Omega.{arith}
 use Rattle.change.proofs.StageSteps.{behind_here, behind_nobody}
 use Rattle.change.specs.Stages.{is_behind}
-use Rattle.numbers.specs.declared.Verdict.TheVariants.{Refused}
+use Rattle.numbers.specs.Chain.{Refused}
 use Rattle.std.proofs.Common.{rules}
 use Rattle.std.proofs.lemmas.Iterator.{IsFirst-from_position, YieldsList-from_slice}
 use Rattle.std.proofs.lemmas.Option.{MatchOption-at_none, MatchOption-at_some}

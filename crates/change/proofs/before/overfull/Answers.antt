@@ -3,7 +3,7 @@ use mathlib.Core.Path.{refl, sym, ap, ◌∙◌}
 use native.Mathlib.Omega.{arith}
 use Rattle.change.proofs.StageSteps.{over_here, over_next, over_end, weight_told}
 use Rattle.change.specs.Stages.{weight_sum}
-use Rattle.numbers.specs.declared.Verdict.TheVariants.{Refused}
+use Rattle.numbers.specs.Chain.{Refused}
 use Rattle.slots.specs.Below.{first}
 use Rattle.change.proofs.before.overfull.Goals as goal
 

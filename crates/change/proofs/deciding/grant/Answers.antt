@@ -4,8 +4,8 @@ use native.Mathlib.Omega.{arith}
 use Rattle.change.proofs.EnterLaws.{plan_periods, start_entered}
 use Rattle.change.specs.Stages.{stages_first}
 use Rattle.numbers.specs.Chain.{first_of}
-use Rattle.numbers.specs.declared.Verdict.TheVariants.{Passed}
-use Rattle.records.specs.Request.{read_request}
+use Rattle.numbers.specs.Chain.{Passed}
+use Rattle.records.specs.Request.{read_request, requested}
 use Rattle.std.proofs.Common.{List, ℕ, ◌≡◌, ◌≤◌}
 use Rattle.timetable.proofs.Sound.{ranged_is, sound_from}
 use Rattle.timetable.specs.declared.Timetable.{Timetable}
@@ -23,7 +23,7 @@ returns-in_err-asked c =
     record { told = k.0; refused = k.1 }
 
 -- A request that passed the first stages is not before the base.
-later : (t : Timetable) (s : List ℕ) (area : ℕ) (q : Request) → first_of (stages_first t (read_request s) area) ≡ Passed → q ≡ (read_request s).request
+later : (t : Timetable) (s : List ℕ) (area : ℕ) (q : Request) → first_of (stages_first t (read_request s) area) ≡ Passed → q ≡ requested (read_request s)
     → t.base.0 ≤ q.slot.0
 later t s area q p e = omega (arith, (first_passes t _ _ p).2, ap (λ (r : Request). r.slot.0) e)
 
