@@ -14,16 +14,6 @@ use Rattle.records.specs.Answer.{field}
 use Rattle.records.specs.Written.{number_bytes}
 use Rattle.slots.specs.declared.CoreSlot.{CoreSlot}
 
--- The field of an entry, its head stored first.
-pub entry_stored : (l m : List ℕ) (at id k bound : ℕ) → m ≡ sets l at (3 ∷ 0 ∷ 3 ∷ [])
-    → set (set (set m (at + 3) id) (at + 4) k) (at + 5) bound ≡ sets l at (field 3 (id ∷ k ∷ bound ∷ []))
-unfolding field
-entry_stored l m at id k bound e =
-    ap (λ (x : List ℕ). set (set (set x (at + 3) id) (at + 4) k) (at + 5) bound) e
-    ∙ ap (λ (x : List ℕ). set (set x (at + 4) k) (at + 5) bound) (set_then l at (at + 3) (3 ∷ 0 ∷ 3 ∷ []) id refl)
-    ∙ ap (λ (x : List ℕ). set x (at + 5) bound) (set_then l at (at + 4) (3 ∷ 0 ∷ 3 ∷ id ∷ []) k refl)
-    ∙ set_then l at (at + 5) (3 ∷ 0 ∷ 3 ∷ id ∷ k ∷ []) bound refl
-
 module _ (listing : List ℕ) where
   -- The fields of the first n entries take six bytes each.
   pub fields_length : (n : ℕ) → length (listing_fields listing n) ≡ 6 * n

@@ -58,7 +58,7 @@ handed_request slot limit listing =
     (Err (refusal OUT_OF_RANGE LIMIT_PLACE)))
     (Err (refusal OUT_OF_RANGE SLOT_PLACE))
 
--- Helper of the contracts in archive/src/writer.rt: that all was read, or the refusal.
+-- Helper of take_entries: that all was read, or the refusal.
 abbrev pub checked : {A : Type 0} → Reading A → Reading (Unit {0})
 checked (Ok x) = Ok tt
 checked (Err r) = Err r

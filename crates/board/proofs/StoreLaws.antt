@@ -21,12 +21,6 @@ use Rattle.timetable.specs.declared.Entry.{Entry}
 use Rattle.timetable.specs.declared.Timetable.{Timetable}
 use Rattle.timetable.specs.Timetable.{entry_of}
 
--- What is written to a part of a list is stored byte by byte.
-pub part_stored : (l vs ws : List ℕ) (at k : ℕ) → ws ≡ vs → k ≡ length vs → at + length vs ≤ length l → put_mid at k l ws ≡ sets l at vs
-part_stored l vs ws at k e n h =
-    rw (e, n) (ap (λ (z : List ℕ). take at l ++ (vs ++ z)) (drop-drop (length vs) at l)
-    ∙ sym (append_assoc (take at l) vs (drop (at + length vs) l)) ∙ sym (sets-eq vs l at h))
-
 -- A slot's bytes, high byte first.
 pub slot_bytes : (n : ℕ) → to_be_bytes w64 n ≡ number_bytes n 8
 unfolding number_bytes

@@ -27,13 +27,3 @@ module _ {F B : Type 0} (g : Mut F (ℕ × Unit {0}) B) (f : F) (h : ℕ → B)
   -- each element is what the closure gives.
   pub made_at : (n : ℕ) (ys : List B) → IsFromFnResult g f ys n → (j : ℕ) (d : B) → j < n → get_or ys j d ≡ h j
   made_at n ys r j d l = made_from ys f refl 0 n r.each j d (omega arith) (omega arith)
-
-  -- It may be called at each index.
-  pub serves_each : (n : ℕ) (Q : F → ℕ → Type 0) → ((i : ℕ) → i < n → Q f i)
-      → CallableAtEachTurn (index_steps n) (λ p x q. (y : B) × Called g p (x, tt) y q) Q 0 f
-  serves_each n Q may =
-      serves_by (λ p x q. (y : B) × Called g p (x, tt) y q) (λ _ q. q ≡ f) keeps (index_steps n) Q 0 f refl
-      (λ xs t q x u _ s e. subst (λ (z : F). Q z x) (sym e) (may x (omega (arith, s.0, s.1))))
-    where
-      keeps : (xs : List ℕ) (q : F) (x : ℕ) (v : F) → q ≡ f → (y : B) × Called g q (x, tt) y v → v ≡ f
-      keeps xs q x v e r = (gives x r.0 v (subst (λ (z : F). Called g z (x, tt) r.0 v) e r.1)).0

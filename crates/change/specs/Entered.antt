@@ -1,4 +1,4 @@
--- Helper of the contract of enter_all in src/before.rt: an entry as it enters a change.
+-- Helpers of the contract of enter_all in src/before.rt: an entry as it enters a change.
 use Rattle.std.specs.Prelude.{List, ℕ}
 use Rattle.change.specs.Stages.{entering}
 use Rattle.records.specs.declared.Ask.{Ask}

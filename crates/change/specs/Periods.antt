@@ -1,4 +1,4 @@
--- Helper of the contracts in src/before.rt: what was asked for is a period.
+-- Helpers of the contracts in src/before.rt: what was asked for is a period.
 use Rattle.std.specs.Prelude.{true, List, ◌≡◌, ℕ, ◌<◌}
 use Rattle.slots.specs.Limits.{IDS}
 use Rattle.timetable.specs.declared.Entry.{Entry}

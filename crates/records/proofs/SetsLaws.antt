@@ -18,12 +18,6 @@ sets_then l i k (v ∷ vs) ws e = sets_then (set l i v) (suc i) k vs ws (omega a
 pub set_then : (l : List ℕ) (i k : ℕ) (vs : List ℕ) (v : ℕ) → k ≡ i + length vs → set (sets l i vs) k v ≡ sets l i (vs ++ v ∷ [])
 set_then l i k vs v e = sets_then l i k vs (v ∷ []) e
 
--- Bytes that are copied: one byte more.
-pub sets_next : (l bytes : List ℕ) (i n : ℕ) → n < length bytes
-    → set (sets l i (take n bytes)) (i + n) (get_or bytes n 0) ≡ sets l i (take (n + 1) bytes)
-sets_next l bytes i n h =
-    rw (add-one n, take-suc bytes n 0 h) (set_then l i (i + n) (take n bytes) _ (omega (arith, length-take-le n bytes (omega arith))))
-
 -- A byte behind a run may be put before it.
 pub sets_behind : (l : List ℕ) (i k : ℕ) (vs : List ℕ) (v : ℕ) → i + length vs ≤ k → sets (set l k v) i vs ≡ set (sets l i vs) k v
 sets_behind l i k [] v h = refl
@@ -31,12 +25,12 @@ sets_behind l i k (w ∷ vs) v h =
     ap (λ (x : List ℕ). sets x (suc i) vs) (set_comm l k i v w (omega arith)) ∙ sets_behind (set l i w) (suc i) k vs v (omega arith)
 
 -- A run that is copied into a part of the list.
-pub sets_copied : (l vs copied : List ℕ) (i k : ℕ) → copied ≡ vs → length vs ≡ k → i + k ≤ length l → put_mid i k l copied ≡ sets l i vs
+pub sets_copied : (l vs copied : List ℕ) (i k : ℕ) → copied ≡ vs → k ≡ length vs → i + length vs ≤ length l → put_mid i k l copied ≡ sets l i vs
 sets_copied l vs copied i k e n h =
     ap (λ (x : List ℕ). take i l ++ (x ++ drop k (drop i l))) e
-    ∙ ap (λ (x : List ℕ). take i l ++ (vs ++ x)) (drop-drop k i l ∙ ap (λ (m : ℕ). drop (i + m) l) (sym n))
+    ∙ ap (λ (x : List ℕ). take i l ++ (vs ++ x)) (drop-drop k i l ∙ ap (λ (m : ℕ). drop (i + m) l) n)
     ∙ sym (append_assoc (take i l) vs (drop (i + length vs) l))
-    ∙ sym (sets-eq vs l i (omega (arith, n)))
+    ∙ sym (sets-eq vs l i h)
 
 -- What stands behind a run stays.
 pub sets_rest : (l : List ℕ) (i n : ℕ) (vs : List ℕ) → i + length vs ≤ n → get_or (sets l i vs) n 0 ≡ get_or l n 0
@@ -54,9 +48,3 @@ sets_taken l vs n e h = ap (take n) (sets_front l vs (omega arith)) ∙ take_at 
 -- A run over the whole of a list leaves nothing of it.
 pub sets_all : (l vs : List ℕ) → length vs ≡ length l → sets l 0 vs ≡ vs
 sets_all l vs e = sets_front l vs (omega arith) ∙ rw (e, drop-length l) (append-nil vs)
-
--- A run that was copied into a part of a list.
-pub copied_in : (l ys zs : List ℕ) (a e : ℕ) → ys ≡ zs → e ≡ a + length zs → e ≤ length l → put_mid a (e - a) l ys ≡ sets l a zs
-copied_in l ys zs a e p q h =
-    let n : e - a ≡ length zs = omega arith in
-    rw (p, n, drop-drop (length zs) a l) (sym (sets-eq zs l a (omega arith) ∙ append_assoc (take a l) zs (drop (a + length zs) l)))

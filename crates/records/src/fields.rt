@@ -28,7 +28,7 @@ pub fn content_at(s: &[u8], at: usize, n: usize) -> u8
     s[at + 3 + n]
 }
 
-// The number that `count` bytes from a place write, big-endian. (Public for the board's image alone.)
+// The number that `count` bytes from a place write, big-endian.
 pub fn number_at(s: &[u8], from: usize, count: usize) -> u64
     requires { (from + count ≤ length s.now) × (count ≤ 8) }
     ensures { result ≡ number_at s.now from count }
@@ -48,7 +48,7 @@ pub fn put_head(area: &mut [u8], at: usize, tag: u8, size: u8)
     area[at..at + 3].copy_from_slice(&[tag, 0, size]);
 }
 
-// Writes the last `width` bytes of a number, high byte first. (Public for the board's image and the writer of requests alone.)
+// Writes the last `width` bytes of a number, high byte first. (Public for the writer of requests alone.)
 pub fn put_number(area: &mut [u8], at: usize, width: usize, number: u64)
     requires { at + width ≤ length area.old }
     ensures { area.new ≡ sets area.old at (number_bytes number width) }

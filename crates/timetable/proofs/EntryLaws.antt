@@ -52,10 +52,6 @@ pub over_other : (own : Bool) (w s : ℕ) → own ≡ false → s + w ≡ over_s
 unfolding over_slot
 over_other own w s h = rw h
 
--- A number times a period is small.
-pub times_period : (x m p : ℕ) → x ≤ m → Period p → x * p ≤ m * WHOLE
-times_period x m p h r = mul-le-mul h (period_le p r)
-
 -- Room and last offset.
 module _ (p b s : ℕ) where
   -- The weight is 256 / period, so the period over 256 does for it.

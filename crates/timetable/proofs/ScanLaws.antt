@@ -47,10 +47,6 @@ module _ (test : ℕ → Bool) where
   unfolding every
   every_next m r s q e h k = rw add-one (e ∙ ap₂ ◌&&◌ h k)
 
-  -- and all.
-  pub every_end : (n m : ℕ) (r : Bool) → n ≤ m → m ≤ n → r ≡ every m test → r ≡ every n test
-  every_end n m r a b h = let e : m ≡ n = omega arith in h ∙ ap (λ (x : ℕ). every x test) e
-
   first_suc : (n : ℕ) → first n test ≡ none → test n ≡ false → first (suc n) test ≡ none
   unfolding first
   first_suc n e h = rw (e, h)

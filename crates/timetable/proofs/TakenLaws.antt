@@ -91,10 +91,6 @@ module _ (period offset : ℕ) (inside : offset < period) where
           same _ _ (λ x. lt-ltb n (reach * 2) (omega (arith, ltb-true (n - reach) reach x))) (λ x. lt-ltb (n - reach) reach (omega (arith, ltb-true n (reach * 2) x))) in
           rw (le-ltb n reach h, le-leb reach n h, r.bit (n - reach) (omega arith), m, t) refl
 
-  -- and past the word's end they are all.
-  pub reaches_all : (bits reach : ℕ) → WORD ≤ reach → Reaches period offset bits reach → AreSlots period offset bits
-  reaches_all bits reach l r n k = r.bit n k ∙ ap (λ (b : Bool). b && eqb (n % period) (offset % WORD)) (lt-ltb n reach (omega arith))
-
 -- ---- the slots of an entry, word by word
 
 -- The slots of an offset in the words below the word, its next, were free and are taken; nothing else has changed.

@@ -7,7 +7,7 @@ use native.Mathlib.Omega.{arith}
 use Rattle.std.specs.Prelude.{None}
 use Rattle.board.proofs.Mapped.{mapped_as}
 use Rattle.board.proofs.ScheduleLaws.{schedule_stored}
-use Rattle.board.proofs.StoreLaws.{part_stored}
+use Rattle.records.proofs.SetsLaws.{sets_copied}
 use Rattle.board.specs.Archive.{listed_byte, offset_byte}
 use Rattle.slots.specs.Limits.{IDS, LONGEST}
 use Rattle.timetable.proofs.ScanLaws.{unmapped}
@@ -28,6 +28,6 @@ returns c =
     let listed = mapped_as _ _ _ _ _ c.map.ensures.items offsets-count listed_byte (λ p y q w. search rules) None in
     let offsets = mapped_as _ _ _ _ _ c.map-2.ensures.items offsets-count offset_byte (λ p y q w. search rules) None in
     schedule_stored x owners-count offsets-count c.args.area.now _ _ _
-    (part_stored l x.owners _ 1 64 c.copy_from_slice.ensures.after (sym owners-count) (omega arith))
-    (part_stored _ _ _ 65 32 (c.copy_from_slice-2.ensures.after ∙ listed) (omega (arith, length-map x.offsets listed_byte)) (omega (arith, length-map x.offsets listed_byte)))
-    (part_stored _ _ _ 97 32 (c.copy_from_slice-3.ensures.after ∙ offsets) (omega (arith, length-map x.offsets offset_byte)) (omega (arith, length-map x.offsets offset_byte)))
+    (sets_copied l x.owners _ 1 64 c.copy_from_slice.ensures.after (sym owners-count) (omega arith))
+    (sets_copied _ _ _ 65 32 (c.copy_from_slice-2.ensures.after ∙ listed) (omega (arith, length-map x.offsets listed_byte)) (omega (arith, length-map x.offsets listed_byte)))
+    (sets_copied _ _ _ 97 32 (c.copy_from_slice-3.ensures.after ∙ offsets) (omega (arith, length-map x.offsets offset_byte)) (omega (arith, length-map x.offsets offset_byte)))

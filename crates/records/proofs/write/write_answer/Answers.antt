@@ -14,6 +14,6 @@ returns c =
     c.put_head.ensures
     c.put_head-2.ensures
     refl
-    (sets_copied _ _ _ _ _ c.copy_from_slice.ensures.after (length-take-le t.length t.owners (omega (arith, c.requires)) ∙ omega arith) (omega (arith, kept, c.requires)))
+    (sets_copied _ _ _ _ _ c.copy_from_slice.ensures.after (omega (arith, length-take-le t.length t.owners (omega (arith, c.requires)))) (omega (arith, kept, c.requires, length-take-le t.length t.owners (omega (arith, c.requires)))))
     c.put_offsets.ensures.0
     c.put_offsets.ensures.1

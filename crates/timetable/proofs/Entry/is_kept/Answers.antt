@@ -2,7 +2,7 @@
 use native.Mathlib.Omega.{arith}
 use Prim.Native.Nat.{ℕ, ◌*◌, ◌≤◌}
 use Rattle.slots.specs.Limits.{WHOLE}
-use Rattle.timetable.proofs.EntryLaws.{kept_is, times_period}
+use Rattle.timetable.proofs.EntryLaws.{kept_is}
 use Rattle.timetable.proofs.Ranges.{period_from}
 use Rattle.timetable.proofs.Entry.is_kept.Goals as goal
 
