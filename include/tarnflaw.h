@@ -261,8 +261,8 @@
  *                     not read
  *     SSE             xmm0 to xmm13, to move, clear, compare, add, subtract, shift, mask, pack and unpack whole numbers, in most functions or in what
  *                     they call; no floating point arithmetic, and no x87, MMX or AVX register (objdump -d). Your memcpy and memset may use more
- *     red zone        timetable::soundness::are_sound, board::image::starts_of, tarnflaw_write_request keep figures in the 128 bytes below the stack pointer (objdump -d):
- *                     a change and both queries call the first two
+ *     red zone        change::before::sound_stage, transition::Plan::place, tarnflaw_write_request keep figures in the 128 bytes below the stack pointer (objdump -d):
+ *                     a change and both queries call the first, and a change the second
  *
  * So SSE has to be enabled. Every caller, as the ABI has it, calls with the stack pointer at a multiple of 16: the code moves 16 bytes at a time to
  * and from the stack, and faults otherwise. An interrupt handler that calls it besides saves the SSE registers first, like all that the ABI lets a
