@@ -2,14 +2,14 @@
 use lib.ListN.{length, length-append, set}
 use lib.Seq.{sets}
 use mathlib.Core.List.{List, [], ◌∷◌, ◌++◌}
-use mathlib.Core.Path.{◌≡◌, refl, ap, ◌∙◌}
+use mathlib.Core.Path.{◌≡◌, refl, ◌∙◌}
 use native.Mathlib.Numerals.{add-one}
 use native.Mathlib.Omega.{arith}
 use Prim.Native.Nat.{ℕ, zero, suc, ◌+◌, ◌*◌}
 use Rattle.archive.specs.Put.{listing_fields, request_fields}
 use Rattle.archive.specs.RequestWrite.{bound_of, id_of, k_of}
 use Rattle.records.proofs.FieldStands.{number_length}
-use Rattle.records.proofs.SetsLaws.{set_then, sets_then}
+use Rattle.records.proofs.SetsLaws.{sets_then}
 use Rattle.records.specs.Answer.{field}
 use Rattle.records.specs.Written.{number_bytes}
 use Rattle.slots.specs.declared.CoreSlot.{CoreSlot}

@@ -1,7 +1,6 @@
 -- An image after a run of stores: a part, the bytes of the ids one behind the other, the whole image. Assumes nothing.
-use borrow.Rule.Slice.PartMut.{put_mid}
-use lib.ListN.{drop, get_or, length, length-append, set, take}
-use lib.Seq.{drop_at, drop-drop, sets, sets-eq}
+use lib.ListN.{drop, get_or, length, length-append, set}
+use lib.Seq.{drop_at, sets}
 use mathlib.Core.List.{List, [], ◌∷◌, ◌++◌, append_assoc}
 use mathlib.Core.Path.{◌≡◌, refl, sym, ap, ◌∙◌}
 use native.Mathlib.Nat.{mul-suc, mul-zero}

@@ -14,7 +14,7 @@ use slots::CoreSlot;
 use timetable::{Entry, Timetable};
 use transition::{Ending, Plan};
 
-// A sound timetable is changed by a request and tells how many lengths were searched; or it refuses the request and stays as it was. No byte of an area is touched. (It is changed in place: handed back in the Result, it was copied five times, 2,400 bytes of the stack.)
+// A sound timetable is changed by a request and tells how many lengths were searched; or it refuses the request and stays as it was. No byte of an area is touched. (It is changed in place: handed back in the Result, it was copied five times.)
 pub fn grant(t: &mut Timetable, request: &[u8], area: usize) -> Result<u8, Refused>
     requires { is_sound t.old ≡ true }
     ensures told { told t.new result ≡ answer t.old request.now area }

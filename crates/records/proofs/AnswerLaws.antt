@@ -6,8 +6,7 @@ use mathlib.Core.List.{List, [], ◌∷◌, ◌++◌}
 use mathlib.Core.Path.{◌≡◌, refl}
 use native.Mathlib.Omega.{arith}
 use Prim.Native.Nat.{ℕ, zero, suc, ◌+◌, ◌*◌, ◌/◌, ◌%◌, ◌≤◌}
-use Rattle.records.proofs.RisingLaws.{rising_same}
-use Rattle.records.specs.Answer.{answer_record, entry_fields, field, offset_in, rising}
+use Rattle.records.specs.Answer.{answer_record, entry_fields, field, rising}
 use Rattle.records.specs.AnswerForm.{listed_below}
 use Rattle.slots.proofs.Below.{count_most}
 use Rattle.slots.specs.Below.{count}

@@ -1,13 +1,12 @@
 -- Bytes put at a place, one by one: a run behind another, one byte more, and what stands in and behind the run. Assumes nothing.
 use borrow.Rule.Slice.PartMut.{put_mid}
 use lib.ListN.{drop, get_or, length, set, take}
-use lib.Seq.{drop-drop, drop-length, get_or-set_other, length-take-le, set_comm, sets, sets-eq, take_at, take-suc}
+use lib.Seq.{drop-drop, drop-length, get_or-set_other, set_comm, sets, sets-eq, take_at}
 use mathlib.Core.List.{List, [], ◌∷◌, ◌++◌, append_assoc, append-nil}
 use mathlib.Core.Path.{◌≡◌, refl, sym, ap, ◌∙◌}
 use native.Mathlib.Nat.{add-zero, zero-add}
-use native.Mathlib.Numerals.{add-one}
 use native.Mathlib.Omega.{arith}
-use Prim.Native.Nat.{ℕ, suc, ◌+◌, ◌-◌, ◌≤◌, ◌<◌}
+use Prim.Native.Nat.{ℕ, suc, ◌+◌, ◌≤◌}
 
 -- A run, then one that starts where it ends, is one run.
 pub sets_then : (l : List ℕ) (i k : ℕ) (vs ws : List ℕ) → k ≡ i + length vs → sets (sets l i vs) k ws ≡ sets l i (vs ++ ws)

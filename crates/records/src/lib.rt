@@ -8,7 +8,7 @@ mod fields; // fields.rt: the fields of a record
 pub mod write; // write.rt: writing an answer
 pub mod read; // read.rt: reading a request
 
-pub use fields::{content_at, is_field, put_head, put_number};
+pub use fields::{content_at, is_field, number_at, put_head, put_number};
 
 // What is asked for an id. A period of 0 says that the request does not list the id, and a bound of 0 that its field was short.
 // (No Option: the promises InFull and AsksAsThere speak of each id's period and bound, as those of a timetable's entries.)

@@ -6,12 +6,12 @@ use lib.Dec.{eqb, ltb}
 use mathlib.Core.Bool.{Bool, true, false, ◌&&◌}
 use mathlib.Core.Path.{◌≡◌, refl, sym, ap, ◌∙◌}
 use native.Mathlib.Decide.{ℕ_discrete, dec_lt}
-use native.Mathlib.Nat.{add-mul, mul_assoc, div-zero, div-le_self, div-lt_iff_lt-mul, min-eq_left, min-eq_right, mod-lt, mul_comm, mul-div-mul_right, mul-le-mul, mul-le-mul_right, mul-lt-mul_of_pos_right}
+use native.Mathlib.Nat.{add-mul, mul_assoc, div-zero, div-le_self, div-lt_iff_lt-mul, mod-lt, mul_comm, mul-div-mul_right, mul-le-mul, mul-le-mul_right, mul-lt-mul_of_pos_right}
 use native.Mathlib.Omega.{arith}
 use Prim.Native.Nat.{ℕ, zero, suc, ◌+◌, ◌-◌, ◌*◌, ◌/◌, ◌%◌, ◌^◌, ◌≤◌, ◌<◌}
 use Rattle.slots.proofs.Windows.{over_still}
 use Rattle.slots.specs.Limits.{WHOLE, LARGEST_BOUND}
-use Rattle.slots.specs.Shortfall.{keeps, over_slot, weight_of, room_of, last_offset_of}
+use Rattle.slots.specs.Shortfall.{keeps, over_slot, weight_of, room_of}
 use Rattle.timetable.proofs.Cycle.{shortfall_before, shortfall_after_lem, weight_pos}
 use Rattle.timetable.proofs.Ranges.{InRange, Period, in_range_from, period_from, period_le, period_pos, period_whole, period_zeros}
 use Rattle.timetable.specs.declared.Entry.{Entry}

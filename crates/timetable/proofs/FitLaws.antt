@@ -1,8 +1,8 @@
 -- The test of the entries and their starts in one pass over the ids, and what it leaves for the pass over the transition's owners. Assumes nothing.
-use borrow.Author.Tests.{le-ltb, lt-ltb, ltb-false, ltb-true, not-false}
+use borrow.Author.Tests.{le-ltb, lt-ltb, ltb-false, ltb-true}
 use lib.Dec.{eqb, ltb}
 use lib.ListN.{get_or, length, set, take}
-use mathlib.Core.Bool.{Bool, true, false, not, ◌&&◌}
+use mathlib.Core.Bool.{Bool, true, false, ◌&&◌}
 use mathlib.Core.List.{List}
 use mathlib.Core.Path.{◌≡◌, refl, sym, ap, ap₂, ◌∙◌}
 use native.Mathlib.Decide.{dec_lt}

@@ -1,7 +1,6 @@
 -- The questions about the numbers below a number, asked one number at a time. Assumes nothing.
-use borrow.Author.Tests.{not-true, not-false}
 use lib.ListN.{length, length-map}
-use mathlib.Core.Bool.{Bool, true, false, not, ◌&&◌}
+use mathlib.Core.Bool.{Bool, true, false, ◌&&◌}
 use mathlib.Core.List.{List, map}
 use mathlib.Core.Option.{none, some}
 use mathlib.Core.Path.{◌≡◌, refl, sym, ap, ap₂, ◌∙◌}

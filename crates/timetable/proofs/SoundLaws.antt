@@ -1,5 +1,5 @@
 -- The clauses of soundness, as they are tested. Assumes nothing.
-use borrow.Author.Tests.{lt-ltb, le-ltb, le-leb, lt-leb, eq-eqb, ne_eqb, leb-true}
+use borrow.Author.Tests.{lt-ltb, le-ltb, ne_eqb, leb-true}
 use lib.Dec.{eqb, leb, ltb}
 use lib.ListN.{get_or, length, drop, length-drop}
 use mathlib.Core.Bool.{Bool, true, false, cond, ◌&&◌, ◌||◌}
@@ -14,13 +14,13 @@ use Rattle.std.proofs.lemmas.List.{get_or-drop}
 use Rattle.timetable.proofs.ScanLaws.{every_same}
 use Rattle.slots.proofs.Below.{and_both, every_at, every_all}
 use Rattle.slots.specs.Below.{every}
-use Rattle.slots.specs.Limits.{IDS, LONGEST, WHOLE, LARGEST_BOUND, LAST_SLOT}
+use Rattle.slots.specs.Limits.{IDS, LONGEST, WHOLE, LAST_SLOT}
 use Rattle.slots.specs.Shortfall.{keeps}
-use Rattle.timetable.proofs.EntryLaws.{unlisted, listed}
+use Rattle.timetable.proofs.EntryLaws.{listed}
 use Rattle.timetable.specs.declared.Entry.{Entry}
 use Rattle.timetable.specs.declared.Timetable.{Timetable}
-use Rattle.timetable.specs.Sound.{request_in_range, length_in_range, base_as_stated, owners_listed, is_period, is_bound, entry_in_range, entry_absent, entries_in_range, none_shared, unused_owners_zero, start_in_range, starts_in_range, walk_arrives, is_sound}
-use Rattle.timetable.specs.Timetable.{no_entry, entry_of, is_listed, weight}
+use Rattle.timetable.specs.Sound.{request_in_range, length_in_range, base_as_stated, owners_listed, is_period, entry_in_range, entry_absent, entries_in_range, none_shared, unused_owners_zero, start_in_range, starts_in_range, walk_arrives, is_sound}
+use Rattle.timetable.specs.Timetable.{no_entry, entry_of, is_listed}
 use Rattle.timetable.specs.Walk.{weighs}
 
 -- ---- one entry

@@ -16,7 +16,7 @@ use Rattle.std.proofs.lemmas.List.{get_or-take, length-take-le}
 use Rattle.std.proofs.lemmas.List.Sums.{count_by_more_no, count_by_more_yes}
 use Rattle.std.proofs.Math.Seq.{take-length}
 use Rattle.std.specs.List.{count_by}
-use Rattle.slots.proofs.Below.{count_most, true_false}
+use Rattle.slots.proofs.Below.{true_false}
 use Rattle.slots.proofs.Windows.{over_still}
 use Rattle.slots.specs.Below.{count}
 use Rattle.slots.specs.Limits.{IDS, LONGEST, WHOLE, LARGEST_BOUND}

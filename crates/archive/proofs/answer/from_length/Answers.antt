@@ -1,5 +1,4 @@
 -- A length that stands is read, and then the owners. Assumes nothing.
-use borrow.Author.Tests.{not-false, not-true}
 use lib.ListN.{replicate}
 use mathlib.Core.Path.{sym, subst, ◌∙◌}
 use Prim.Native.Nat.{ℕ}
@@ -7,8 +6,6 @@ use Rattle.archive.proofs.AnswerSteps.{AnswerRead, length_goes, length_stops}
 use Rattle.std.specs.Prelude.{None}
 use Rattle.archive.specs.AnswerRead.{no_schedule}
 use Rattle.slots.specs.Limits.{IDS, LONGEST}
-use mathlib.Core.Bool.{not}
-use mathlib.Core.Path.{ap}
 use Rattle.archive.proofs.answer.from_length.Goals as goal
 
 pub returns-then-not-length_stands : goal.returns-then-not-length_stands

@@ -1,5 +1,4 @@
 -- Owners that stand are read, and then the offsets. Assumes nothing.
-use borrow.Author.Tests.{not-false, not-true}
 use lib.ListN.{replicate}
 use mathlib.Core.List.{List}
 use mathlib.Core.Path.{sym, subst, ◌∙◌}
@@ -9,8 +8,6 @@ use Rattle.std.specs.Prelude.{None}
 use Rattle.archive.specs.AnswerRead.{owners_below}
 use Rattle.archive.specs.declared.Schedule.{Schedule}
 use Rattle.slots.specs.Limits.{IDS, LONGEST}
-use mathlib.Core.Bool.{not}
-use mathlib.Core.Path.{ap}
 use Rattle.archive.proofs.answer.from_owners.Goals as goal
 
 -- What was read up to the offsets.

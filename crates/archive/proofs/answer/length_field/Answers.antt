@@ -1,9 +1,6 @@
 -- The step is the one of a length that stands, or the refusal. Assumes nothing.
-use borrow.Author.Tests.{not-false, not-true}
 use mathlib.Core.Path.{sym, ◌∙◌}
 use Rattle.archive.specs.AnswerRead.{length_field, refused_at}
-use mathlib.Core.Bool.{not}
-use mathlib.Core.Path.{ap}
 use Rattle.archive.proofs.answer.length_field.Goals as goal
 
 pub returns-then-not-length_stands : goal.returns-then-not-length_stands

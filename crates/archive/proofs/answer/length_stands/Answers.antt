@@ -1,9 +1,7 @@
 -- The form is tested first, then the length. Assumes nothing.
-use borrow.Author.Tests.{not-false, not-true}
 use lib.Dec.{leb}
 use mathlib.Core.Path.{sym, ap, ◌∙◌}
 use Rattle.slots.specs.Limits.{LONGEST}
-use mathlib.Core.Bool.{not}
 use Rattle.archive.proofs.answer.length_stands.Goals as goal
 
 pub returns-then-not-is_field : goal.returns-then-not-is_field

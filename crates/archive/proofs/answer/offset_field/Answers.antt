@@ -1,13 +1,10 @@
 -- The step is the one of an offset that stands, or the refusal. Assumes nothing.
-use borrow.Author.Tests.{not-false, not-true}
 use lib.ListN.{length}
 use mathlib.Core.Path.{sym, ◌∙◌}
 use native.Mathlib.Omega.{arith}
 use Prim.Native.Nat.{◌+◌, ◌≤◌}
 use Rattle.archive.proofs.AnswerSteps.{offset_inside}
 use Rattle.archive.specs.AnswerRead.{offset_field, refused_at}
-use mathlib.Core.Bool.{not}
-use mathlib.Core.Path.{ap}
 use Rattle.archive.proofs.answer.offset_field.Goals as goal
 
 pub returns-then-not-offset_stands : goal.returns-then-not-offset_stands

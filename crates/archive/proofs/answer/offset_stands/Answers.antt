@@ -1,5 +1,5 @@
 -- The form is tested first, then the id. Assumes nothing.
-use borrow.Author.Tests.{le-ltb, lt-ltb, not-false, not-true}
+use borrow.Author.Tests.{le-ltb, lt-ltb}
 use lib.Dec.{leb}
 use mathlib.Core.Bool.{true, and-false}
 use mathlib.Core.Path.{◌≡◌, sym, ap, ◌∙◌}
@@ -8,7 +8,6 @@ use Rattle.archive.specs.AnswerRead.{floor_at}
 use Rattle.records.proofs.ReadSteps.{field_inside}
 use Rattle.records.specs.Request.{content_at, is_field}
 use Rattle.slots.specs.Limits.{IDS}
-use mathlib.Core.Bool.{not}
 use Rattle.archive.proofs.answer.offset_stands.Goals as goal
 
 pub returns-then-not-is_field : goal.returns-then-not-is_field

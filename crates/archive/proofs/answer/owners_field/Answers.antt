@@ -1,9 +1,6 @@
 -- The step is the one of owners that stand, or the refusal. Assumes nothing.
-use borrow.Author.Tests.{not-false, not-true}
 use mathlib.Core.Path.{sym, ◌∙◌}
 use Rattle.archive.specs.AnswerRead.{owners_field, refused_at}
-use mathlib.Core.Bool.{not}
-use mathlib.Core.Path.{ap}
 use Rattle.archive.proofs.answer.owners_field.Goals as goal
 
 pub returns-then-not-owners_stand : goal.returns-then-not-owners_stand

@@ -1,5 +1,5 @@
 -- The length is tested first, then the form, then the owners. Assumes nothing.
-use borrow.Author.Tests.{le-leb, lt-leb, not-false, not-true}
+use borrow.Author.Tests.{le-leb, lt-leb}
 use mathlib.Core.Bool.{and-false}
 use mathlib.Core.Path.{◌≡◌, sym, subst, ◌∙◌}
 use native.Mathlib.Omega.{arith}
@@ -8,8 +8,6 @@ use Rattle.archive.specs.AnswerRead.{are_owners, told_length}
 use Rattle.records.proofs.ReadSteps.{field_inside}
 use Rattle.records.specs.Request.{is_field}
 use Rattle.slots.specs.Limits.{LONGEST}
-use mathlib.Core.Bool.{not}
-use mathlib.Core.Path.{ap}
 use Rattle.archive.proofs.answer.owners_stand.Goals as goal
 
 pub returns-then-size-gt-LONGEST : goal.returns-then-size-gt-LONGEST

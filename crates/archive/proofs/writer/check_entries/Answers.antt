@@ -1,12 +1,9 @@
 -- The invariant: the first n entries are in range and rise, and `floor` is the least id that the next may have. Assumes nothing.
-use borrow.Author.Tests.{not-false, not-true}
 use mathlib.Core.Path.{refl, sym, ◌∙◌}
 use native.Mathlib.Numerals.{add-one}
 use native.Mathlib.Omega.{arith}
 use Rattle.archive.proofs.WriterLaws.{Stop, entry_fails, entry_range, floor_of, checked_is, rise_inside, rise_more, rise_none}
 use Rattle.archive.specs.Writes.{EntryRange}
-use mathlib.Core.Bool.{not}
-use mathlib.Core.Path.{ap}
 use Rattle.archive.proofs.writer.check_entries.Goals as goal
 
 pub loop-n-init : goal.loop-n-init

@@ -1,11 +1,11 @@
 -- `enter_all` lets one id enter after the other. Assumes nothing.
-use Rattle.std.proofs.Common.{length, ◌≡◌, refl, rules, arith}
+use Rattle.std.proofs.Common.{refl}
 use Rattle.slots.specs.Limits.{IDS}
 use Rattle.change.specs.Entered.{entered}
 use Rattle.timetable.proofs.Entries.{each_all}
 use Rattle.timetable.proofs.SoundLaws.{entry_range}
 use Rattle.timetable.specs.Timetable.{each}
-use Rattle.transition.proofs.Each.{as_many, each_more, next_is}
+use Rattle.transition.proofs.Each.{each_more, next_is}
 use Rattle.change.proofs.before.enter_all.Goals as goal
 
 pub loop-id-init : goal.loop-id-init

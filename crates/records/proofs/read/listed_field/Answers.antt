@@ -1,5 +1,4 @@
 -- The long form is tested first, then the short one, each for its range and then for its id, as in the definition. Assumes nothing.
-use borrow.Author.Tests.{not-false, not-true}
 use mathlib.Core.Bool.{true, false, ◌&&◌}
 use mathlib.Core.Path.{◌≡◌, sym, ap, ap₂, ◌∙◌}
 use native.Mathlib.Omega.{arith}
@@ -8,7 +7,6 @@ use Rattle.records.proofs.NextStep.{listed_tested}
 use Rattle.records.proofs.ReadSteps.{field_inside, listed_range}
 use Rattle.records.specs.Request.{content_at, is_field, is_listing}
 use Rattle.timetable.specs.Sound.{is_bound}
-use mathlib.Core.Bool.{not}
 use Rattle.records.proofs.read.listed_field.Goals as goal
 
 pub content_at-bound-requires : goal.content_at-bound-requires

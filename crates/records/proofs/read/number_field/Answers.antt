@@ -1,13 +1,10 @@
 -- The form is tested first, then the value, as in the definition; a field that stands ends inside the record, so no sum wraps. Assumes nothing.
-use borrow.Author.Tests.{not-false, not-true}
 use mathlib.Core.Bool.{true}
 use mathlib.Core.Path.{◌≡◌, sym, ◌∙◌}
 use native.Mathlib.Omega.{arith}
 use Rattle.records.proofs.FieldLaws.{NumberRead, number_is}
 use Rattle.records.proofs.ReadSteps.{field_inside}
 use Rattle.records.specs.Request.{is_field}
-use mathlib.Core.Bool.{not}
-use mathlib.Core.Path.{ap}
 use Rattle.records.proofs.read.number_field.Goals as goal
 
 pub returns-then-not-is_field : goal.returns-then-not-is_field

@@ -1,5 +1,5 @@
 -- The five bytes of the field are copied. Assumes nothing.
-use Rattle.std.proofs.Common.{[], ◌∷◌, refl, arith}
+use Rattle.std.proofs.Common.{arith}
 use Rattle.records.proofs.SetsLaws.{sets_copied}
 use Rattle.records.specs.Answer.{field}
 use Rattle.records.proofs.write.put_offset.Goals as goal

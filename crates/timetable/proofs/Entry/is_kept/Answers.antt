@@ -1,7 +1,4 @@
 -- `is_kept` asks the definition's question of both sides times the period, in 32 bits, where they fit. Assumes nothing.
-use native.Mathlib.Omega.{arith}
-use Prim.Native.Nat.{ℕ, ◌*◌, ◌≤◌}
-use Rattle.slots.specs.Limits.{WHOLE}
 use Rattle.timetable.proofs.EntryLaws.{kept_is}
 use Rattle.timetable.proofs.Ranges.{period_from}
 use Rattle.timetable.proofs.Entry.is_kept.Goals as goal

@@ -1,6 +1,6 @@
 -- `room` multiplies by the period and divides by 256; an entry in range has a shortfall below 256 R, so nothing is cut off at 0. Assumes nothing.
 use native.Mathlib.Omega.{arith}
-use Rattle.timetable.proofs.EntryLaws.{room_is, room_left, room_product, room_small}
+use Rattle.timetable.proofs.EntryLaws.{room_is, room_left, room_small}
 use Rattle.timetable.proofs.Ranges.{in_range_from}
 use Rattle.timetable.proofs.Entry.room.Goals as goal
 

@@ -1,8 +1,6 @@
 -- `slices_after` follows the closed form: no slice up to the first own slot, then one for it and one for each whole period since. Assumes nothing.
 use mathlib.Core.Path.{sym, ap}
-use native.Mathlib.Nat.{div-le_self}
 use native.Mathlib.Omega.{arith}
-use Prim.Native.Nat.{◌-◌}
 use Rattle.slots.specs.Clocks.{slice_count}
 use Rattle.timetable.proofs.Cycle.{slices_before, slices_after_lem}
 use Rattle.timetable.proofs.Ranges.{in_range_from}

@@ -1,5 +1,5 @@
 -- `owner_at` reads the owner that stands for a transition slot; from the base on the cyclic slots tell. Assumes nothing.
-use Rattle.std.proofs.Common.{Option, Some, None, MatchOption, List, ℕ, ◌≡◌, ◌∙◌, ◌<◌, ◌≤◌, ◌-◌}
+use Rattle.std.proofs.Common.{Option, Some, None, MatchOption, ℕ, ◌≡◌, ◌∙◌, ◌≤◌, ◌-◌}
 use Rattle.std.proofs.Math.Option.{none, some}
 use Rattle.slots.specs.Below.{first}
 use Rattle.slots.specs.declared.CoreSlot.{CoreSlot}

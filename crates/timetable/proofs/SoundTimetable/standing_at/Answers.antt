@@ -1,6 +1,5 @@
 -- `standing_at` walks the transition, and counts its own slots, up to a slot before the base; from the base on the entry tells, and all of the transition's own slots count. Assumes nothing.
-use Rattle.std.proofs.Common.{ℕ, eqb, get_or, true, length, take, refl, ap₂, ◌≡◌, ◌+◌, ◌-◌, ◌*◌, ◌≤◌, ◌<◌, sym, ap, ◌∙◌, arith}
-use Rattle.std.proofs.lemmas.List.{length-take-le}
+use Rattle.std.proofs.Common.{ℕ, eqb, get_or, length, take, refl, ap₂, ◌≡◌, ◌+◌, ◌-◌, ◌≤◌, ap, ◌∙◌, arith}
 use Rattle.slots.specs.Clocks.{slice_count}
 use Rattle.slots.specs.Below.{count}
 use Rattle.slots.specs.declared.CoreSlot.{CoreSlot}
@@ -12,11 +11,8 @@ use Rattle.timetable.proofs.ListedRange.{listed_in_range}
 use Rattle.timetable.proofs.OwnerLaws.{place_fits}
 use Rattle.timetable.proofs.Ranges.{in_range_from, period_is}
 use Rattle.timetable.proofs.Since.{shortfall_cycle, shortfall_transition, slices_cycle, slices_most, slices_transition, start_small}
-use Rattle.timetable.proofs.Sound.{Sound, sound_from}
-use Rattle.timetable.specs.declared.Entry.{Entry}
-use Rattle.timetable.specs.declared.Timetable.{Timetable}
-use Rattle.timetable.specs.Sound.{entry_in_range, is_sound}
-use Rattle.timetable.specs.Timetable.{entry_of, lists, slices_after, start_of, transition_shortfall, weight}
+use Rattle.timetable.proofs.Sound.{sound_from}
+use Rattle.timetable.specs.Timetable.{entry_of, slices_after, start_of, transition_shortfall}
 use Rattle.timetable.proofs.SoundTimetable.standing_at.Goals as goal
 
 pub shared_ref_as_front-owners : goal.shared_ref_as_front-owners

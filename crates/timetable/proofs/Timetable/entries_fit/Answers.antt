@@ -1,5 +1,5 @@
 -- `entries_fit` tests one id after the other, and puts in its figures. Assumes nothing.
-use Rattle.std.proofs.Common.{Bool, ℕ, get_or, not, true, ◌≤◌, lt-ltb, ◌≡◌, ◌+◌, ◌*◌, ◌<◌, refl, sym, ap, ◌∙◌, arith}
+use Rattle.std.proofs.Common.{Bool, ℕ, get_or, true, ◌≤◌, lt-ltb, ◌≡◌, ◌+◌, ◌*◌, ◌<◌, refl, sym, ◌∙◌, arith}
 use Rattle.timetable.proofs.FitLaws.{fit_all, fit_shared, fit_unborne, fit_unformed, fitting_next, fitting_none, unserved_small}
 use Rattle.timetable.proofs.Ranges.{in_range_from, period_is}
 use Rattle.timetable.proofs.ScanLaws.{passed}

@@ -1,11 +1,9 @@
 -- `is_sound` asks for the clauses one after the other, each where the ones before it hold, and walks the transition where all others do. Assumes nothing.
-use Rattle.std.proofs.Common.{Bool, true, false, not, List, ℕ, get_or, length, take, ◌≡◌, ◌≤◌, refl, sym, ap, ◌∙◌, arith}
-use Rattle.slots.specs.Limits.{IDS, LONGEST}
+use Rattle.std.proofs.Common.{true, ◌≡◌, ◌≤◌, sym, ◌∙◌, arith}
+use Rattle.slots.specs.Limits.{LONGEST}
 use Rattle.timetable.proofs.FitLaws.{all_fit, transition_owners, walk_tells, walkable}
-use Rattle.timetable.proofs.SoundLaws.{fits, placed, placed_length, sound_fits, sound_owners, sound_placed, sound_unused, sound_walk, unused, unused_tell}
+use Rattle.timetable.proofs.SoundLaws.{placed, placed_length, sound_fits, sound_owners, sound_placed, sound_unused, sound_walk, unused, unused_tell}
 use Rattle.timetable.specs.declared.Timetable.{Timetable}
-use Rattle.timetable.specs.Sound.{owners_listed}
-use Rattle.timetable.specs.Walk.{Fit}
 use Rattle.timetable.proofs.Timetable.is_sound.Goals as goal
 
 -- The length of a timetable that is placed.

@@ -1,6 +1,5 @@
 -- `weight_of` shifts by the zeros of a period, which divides by it, or by the 16 of 0. Assumes nothing.
-use native.Mathlib.Omega.{arith}
-use Rattle.timetable.proofs.EntryLaws.{weight_le, weight_shift}
+use Rattle.timetable.proofs.EntryLaws.{weight_shift}
 use Rattle.timetable.proofs.figures.weight_of.Goals as goal
 
 pub returns : goal.returns

@@ -1,5 +1,4 @@
 -- `slots_in_word` meets its contract. The loop's invariant: the bits are those of the offset's slots as far as they reach. Assumes nothing.
-use native.Mathlib.Omega.{arith}
 use Rattle.timetable.proofs.TakenLaws.{reaches_first, reaches_twice}
 use Rattle.timetable.proofs.slot_bits.slots_in_word.Goals as goal
 

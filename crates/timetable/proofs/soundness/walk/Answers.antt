@@ -1,7 +1,6 @@
 -- `walk` takes each slot off what its owner would be owed, which is there. Assumes nothing.
-use Rattle.std.proofs.Common.{get_or, length, ◌-◌, ◌*◌, ◌<◌, ◌≤◌, refl, arith}
-use Rattle.slots.specs.Limits.{IDS}
-use Rattle.timetable.proofs.WalkLaws.{owed_after, owed_before, owed_next, owed_small, rest_there}
+use Rattle.std.proofs.Common.{arith}
+use Rattle.timetable.proofs.WalkLaws.{owed_after, owed_before, owed_next, rest_there}
 use Rattle.timetable.proofs.soundness.walk.Goals as goal
 
 pub loop-n-init : goal.loop-n-init

@@ -1,10 +1,8 @@
 -- `search` meets its contract. The loop's invariant: n lengths were passed over, the plan is the one that length n reaches, the order lists the ids,
 -- and the definition's search goes on from there. Each way to leave gives the definition's answer. Assumes nothing.
 use borrow.Author.Rules.{rules}
-use borrow.Author.Tests.{not-true, not-false}
 use lib.ListN.{length}
-use mathlib.Core.Bool.{not}
-use mathlib.Core.Path.{◌≡◌, refl, ap, subst}
+use mathlib.Core.Path.{◌≡◌, refl, subst}
 use native.Mathlib.Omega.{arith}
 use Prim.Native.Nat.{ℕ}
 use Rattle.slots.specs.Limits.{IDS}
