@@ -13,8 +13,6 @@ use Rattle.archive.specs.AnswerRead.{told_owner, owners_below, entry_offset, id_
 use Rattle.records.specs.Request.{content_at}
 use Rattle.slots.specs.Below.{every}
 use Rattle.std.proofs.lemmas.List.{length-take}
-use Rattle.std.proofs.lemmas.List.Folds.{list_all-append}
-use Rattle.std.specs.List.{list_all}
 use Rattle.slots.specs.Limits.{IDS, LONGEST}
 use Rattle.timetable.specs.declared.Entry.{Entry}
 use Rattle.timetable.specs.Timetable.{entry_of, no_entry}
@@ -72,23 +70,6 @@ module _ (s : List ℕ) where
           rw (le-ltb k (told_length s) (omega arith))
           (ap (λ (x : ℕ). get_or front_and_zeros x 0) m ∙ get_or-append-add front zeros (k - n) 0 ∙ get_or-drop n (replicate LONGEST 0) (k - n) 0
           ∙ ap (λ (x : ℕ). get_or (replicate LONGEST 0) x 0) j ∙ get_or-replicate LONGEST k 0 0 l)
-
-  -- Whether all of the first n owners are below 32 is whether each is.
-  owners_each : (n : ℕ) → 7 + n ≤ length s → list_all (λ (o : ℕ). ltb o IDS) (take n (drop 7 s)) ≡ every n (λ k. ltb (content_at s 4 k) IDS)
-  unfolding every content_at
-  owners_each zero h = refl
-  owners_each (suc n) h =
-      rw (
-        take-suc (drop 7 s) n 0 (omega (arith, length-drop 7 s)),
-        list_all-append (λ (o : ℕ). ltb o IDS) (take n (drop 7 s)) (get_or (drop 7 s) n 0 ∷ []),
-        owners_each n (omega arith),
-        get_or-drop 7 s n 0,
-      )
-      (ap (λ (b : Bool). every n (λ k. ltb (content_at s 4 k) IDS) && b) (and-true _))
-
-  -- The same of the run from the first owner to the last.
-  pub owners_all : (n : ℕ) → 7 + n ≤ length s → list_all (λ (o : ℕ). ltb o IDS) (take (7 + n - 7) (drop 7 s)) ≡ every n (λ k. ltb (content_at s 4 k) IDS)
-  owners_all n h = let m : 7 + n - 7 ≡ n = omega arith in rw m (owners_each n h)
 
 -- What is said of id i is what its entry says.
 pub placed_map : (es : List Entry) (i : ℕ) → id_offset (map entry_offset es) i ≡ entry_offset (entry_of es i)
