@@ -1,4 +1,3 @@
-pub mod Mapped
 pub mod StoreLaws
 pub mod ScheduleLaws
 pub mod HeldLaws

@@ -1,15 +1,34 @@
 -- An area after a run of stores, the whole schedule, and what stands where in it. Assumes nothing.
-use lib.ListN.{drop, get_or, length, length-append, length-map, get_or-append, get_or-map, set}
-use lib.Seq.{get_or-append-add, length-sets, sets}
+use lib.ListN.{drop, get_or, length, length-append, length-map, get_or-append, get_or-map, set, take}
+use lib.Seq.{get_or-append-add, length-sets, length-take-le, sets, take-suc, take_all}
 use mathlib.Core.List.{List, [], ◌∷◌, ◌++◌, append_assoc, map}
-use mathlib.Core.Path.{◌≡◌, refl, ap, ◌∙◌}
+use mathlib.Core.Path.{◌≡◌, refl, sym, ap, ◌∙◌}
+use native.Mathlib.Numerals.{add-one}
 use native.Mathlib.Omega.{arith}
 use Prim.Native.Nat.{ℕ, ◌+◌, ◌≤◌, ◌<◌}
 use Rattle.std.specs.Prelude.{None}
+use Rattle.std.specs.declared.option.Option.{Option}
 use Rattle.archive.specs.declared.Schedule.{Schedule}
 use Rattle.board.specs.Archive.{LISTED_AT, OFFSETS_AT, SCHEDULE, ScheduleStands, listed_byte, offset_byte, schedule_bytes}
-use Rattle.records.proofs.SetsLaws.{sets_front, sets_rest, sets_then}
+use Rattle.records.proofs.SetsLaws.{set_then, sets_front, sets_rest, sets_then}
 use Rattle.slots.specs.Limits.{IDS, LONGEST}
+
+module _ (f : Option ℕ → ℕ) (none : f None ≡ 0) (l : List ℕ) (at : ℕ) (ps : List (Option ℕ)) (all : length ps ≡ IDS) where
+  abbrev stored : ℕ → List ℕ
+  stored n = sets l at (take n (map f ps))
+
+  -- The byte of one id more.
+  pub byte_next : (m : List ℕ) (n v : ℕ) → n < IDS → m ≡ stored n → v ≡ f (get_or ps n None) → set m (at + n) v ≡ stored (n + 1)
+  byte_next m n v h e p =
+      let b = map f ps in
+      let few : n < length b = omega (arith, length-map ps f) in
+      let byte : v ≡ get_or b n 0 = p ∙ sym (get_or-map f ps n None) ∙ ap (get_or b n) none in
+      ap (λ (z : List ℕ). set z (at + n) v) e ∙ ap (set (stored n) (at + n)) byte
+      ∙ rw (add-one n, take-suc b n 0 few) (set_then l at (at + n) (take n b) _ (omega (arith, length-take-le n b (omega arith))))
+
+  -- The bytes of all ids.
+  pub bytes_all : stored IDS ≡ sets l at (map f ps)
+  bytes_all = ap (sets l at) (take_all IDS (map f ps) (omega (arith, length-map ps f)))
 
 -- The parts stored one behind the other are the schedule.
 pub schedule_stored : (x : Schedule) → length x.owners ≡ LONGEST → length x.offsets ≡ IDS → (l a b d : List ℕ)
