@@ -19,6 +19,7 @@ pub mod queries; // queries.rt: the owner query and the standing query
 use deciding::grant;
 
 // What is decided of a request: a number of docs/RULES.md 7.1 and its place, the lengths searched, and the timetable in force from now on.
+// (No Result: a refusal hands back a timetable too, and OfCode of the promises speaks of the number and the timetable alike.)
 #[derive(Clone, Copy)]
 pub struct Answer {
     pub number: u8,

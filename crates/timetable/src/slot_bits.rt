@@ -15,6 +15,7 @@ pub const WORDS: usize = Timetable::WHOLE as usize / WORD;
 pub type SlotBits = [u64; WORDS];
 
 // The slots of an offset in a word that has any of them: the first, and then twice as many, which reach twice as far, up to the word's end.
+// (A `for` is no plainer: how far the slots reach doubles, and is what the loop tests.)
 pub fn slots_in_word(period: usize, offset: usize) -> u64
     requires { offset < period }
     ensures { AreSlots period offset result }
