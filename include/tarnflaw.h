@@ -271,8 +271,8 @@
  *
  * What it takes
  *
- * Measured, not proved, and the worst that was found, not a bound. Stack, with that of memcpy and memset (bench/count): of a change 1,695 bytes, of an
- * owner query 751, of a standing query 783; that of the other functions was not measured. Times of this code as an older toolchain built it, on an x86-64
+ * Measured, not proved, and the worst that was found, not a bound. Stack, with that of memcpy and memset (bench/count): of a change 1,759 bytes, of an
+ * owner query 975, of a standing query 1,007; that of the other functions was not measured. Times of this code as an older toolchain built it, on an x86-64
  * machine (docs/BENCHMARKS.md has it, and the inputs): a change took 0.4 microseconds at the median of (a), and 19 at the worst; a query 0.4 at the worst, and reading an answer and
  * writing a request 0.1. Earlier builds took longer. Up to version 4 the worst change took 95 to 103 microseconds on a quiet x86-64 machine, 142 where other
  * work disturbed it, and 201 on a slower one with an unsteady clock (docs/landings/ground.md); made for an Arm machine and timed there, 77 with versions 4
