@@ -5,6 +5,7 @@ ghost use Rattle.std.specs.Prelude.{◌≡◌};
 ghost use Rattle.numbers.specs.Numbers.{refusal};
 
 // Why something was refused: a number of docs/RULES.md 7.1 and its place.
+// (A number, no enum: `of` takes every one, and `only` of OfCode makes a refusal of whatever number an outcome has.)
 #[derive(Clone, Copy)]
 pub struct Refusal {
     pub number: u8,

@@ -9,6 +9,7 @@ ghost use Rattle.timetable.specs.Timetable.{is_listed, room, last_offset, cyclic
 use crate::{Entry, Timetable};
 use slots::SliceCount;
 
+// (That an entry is in range is a clause and no type: a timetable holds entries that may not be, since its soundness is what is tested.)
 impl Entry {
     // Whether the entry is listed: it has a period.
     pub fn is_listed(self) -> bool
