@@ -1,9 +1,7 @@
 -- A schedule's parts: the owners of a record one by one, what is said of an id, and the schedule of a timetable. Assumes nothing.
 use borrow.Author.Tests.{le-ltb, lt-ltb}
-use lib.Dec.{ltb}
 use lib.ListN.{drop, get_or, get_or-replicate, length, length-append, length-drop, length-replicate, get_or-append, get_or-map, replicate, take}
-use lib.Seq.{ext_get_or, get_or_at, get_or-append-add, get_or-drop, get_or-take, take-suc}
-use mathlib.Core.Bool.{Bool, ◌&&◌, and-true}
+use lib.Seq.{ext_get_or, get_or_at, get_or-append-add, get_or-drop, get_or-take}
 use mathlib.Core.List.{List, [], ◌∷◌, ◌++◌, map}
 use mathlib.Core.Path.{◌≡◌, refl, sym, ap, ◌∙◌}
 use native.Mathlib.Decide.{ℕ_discrete, dec_lt}
@@ -11,9 +9,8 @@ use native.Mathlib.Omega.{arith}
 use Prim.Native.Nat.{ℕ, zero, suc, ◌+◌, ◌-◌, ◌≤◌, ◌<◌}
 use Rattle.archive.specs.AnswerRead.{told_owner, owners_below, entry_offset, id_offset, told_length}
 use Rattle.records.specs.Request.{content_at}
-use Rattle.slots.specs.Below.{every}
 use Rattle.std.proofs.lemmas.List.{length-take}
-use Rattle.slots.specs.Limits.{IDS, LONGEST}
+use Rattle.slots.specs.Limits.{LONGEST}
 use Rattle.timetable.specs.declared.Entry.{Entry}
 use Rattle.timetable.specs.Timetable.{entry_of, no_entry}
 
