@@ -255,11 +255,11 @@
  *     ABI             x86-64, System V, 64-bit ELF (readelf -h); code and constants together run at any address, since calls and references are relative
  *                     (objdump -r)
  *     from outside    memcpy memset (nm -u)
- *     data            208 bytes of constants, none writable (objdump -h)
+ *     data            96 bytes of constants, none writable (objdump -h)
  *     instructions    those of the first x86-64 processors, and tzcnt (objdump -d). Processors without BMI1 run tzcnt as bsf, which gives the same
  *                     here: its operand, a period, or one with a bit set above it, is never 0 where it is reached, and the flags that it sets are
  *                     not read
- *     SSE             xmm0 to xmm13, to move, clear, compare, add, subtract, shift, mask, pack and unpack whole numbers, in most functions or in what
+ *     SSE             xmm0 to xmm6, to move, clear, compare, add, subtract, shift, mask, pack and unpack whole numbers, in most functions or in what
  *                     they call; no floating point arithmetic, and no x87, MMX or AVX register (objdump -d). Your memcpy and memset may use more
  *     red zone        change::before::sound_stage, transition::Plan::place, tarnflaw_write_request keep figures in the 128 bytes below the stack pointer (objdump -d):
  *                     a change and both queries call the first, and a change the second
