@@ -5,21 +5,23 @@ use lib.ListN.{length, set}
 use mathlib.Core.Bool.{Bool, true, false, cond, ◌&&◌, and-false}
 use mathlib.Core.List.{List}
 use mathlib.Core.Logic.{◌≢◌, inl, inr}
-use mathlib.Core.Path.{◌≡◌, refl, subst}
+use mathlib.Core.Path.{◌≡◌, refl, ap, subst}
 use native.Mathlib.Omega.{arith}
 use Prim.Native.Nat.{ℕ, zero, suc, ◌+◌, ◌≤◌, ◌<◌}
 use Rattle.std.specs.Prelude.{Ok, Err, Some, None}
+use Rattle.std.specs.declared.option.Option.{Option}
 use Rattle.std.specs.Result.{IfErr}
 use Rattle.std.proofs.lemmas.Result.{IfErr-at_err}
-use Rattle.archive.specs.AnswerRead.{are_owners, field_at, floor_at, length_field, length_stands, no_schedule, offset_field, offset_stands, owners_below, owners_field, owners_stand, read_end, read_fields, read_from, refused_at, step, told_length, with_field, ReadAnswer, ReadField}
-pub use Rattle.archive.specs.AnswerReads.{AnswerRead, FieldRead, WrongOwner, bad_field}
+use Rattle.archive.specs.AnswerRead.{are_owners, field_at, field_of, floor_at, length_field, length_stands, no_schedule, offset_field, offset_stands, owners_below, owners_field, owners_stand, place_after, read_end, read_fields, read_from, refused_at, step, told_length, told_schedule, with_field, ReadAnswer, ReadField}
+pub use Rattle.archive.specs.AnswerReads.{AnswerRead, FieldRead, NothingTold, ReaderStep, WrongOwner, bad_field}
 use Rattle.archive.specs.declared.AnswerField.{AnswerField}
 use Rattle.archive.specs.declared.AnswerField.TheVariants.{Length, Owners, Offset}
 use Rattle.archive.specs.declared.Schedule.{Schedule}
 use Rattle.numbers.specs.declared.Refusal.{Refusal}
 use Rattle.numbers.specs.Numbers.{BAD_FIELD, refusal}
 use Rattle.records.proofs.ReadSteps.{field_inside}
-use Rattle.records.specs.Request.{content_at, is_field}
+use Rattle.records.proofs.RisingLaws.{all_empty}
+use Rattle.records.specs.Request.{content_at, is_field, Reading}
 use Rattle.slots.proofs.Below.{and_both, every_all, every_at, every_fails, every_not}
 use Rattle.slots.specs.Limits.{IDS, LONGEST}
 
@@ -107,6 +109,24 @@ module _ (s : List ℕ) where
   field_is (FieldRead.no_offset_field {at = at} m n h (inr (inr r))) =
       rw (ne_eqb at 0 m, ne_eqb at 4 n, lt-leb (length s) at h, lt-leb _ _ r, and-false (is_field s at 0x12 2 && ltb (content_at s at 0) IDS))
   field_is (FieldRead.end {at = at} m n h) = rw (ne_eqb at 0 m, ne_eqb at 4 n, le-leb (length s) at h)
+
+  -- What the reader tells and where it goes is what stands there,
+  pub step_read : (at : ℕ) → ReaderStep s at (field_of (field_at s at)) (place_after at (field_at s at))
+  unfolding field_of place_after
+  step_read at = by (field_at s at) (field_read at)
+    where
+      by : (y : ReadField) → FieldRead s at y → ReaderStep s at (field_of y) (place_after at y)
+      by (Ok (Some x)) d = ReaderStep.moves d
+      by (Ok None) d = ReaderStep.rests d
+      by (Err r) d = ReaderStep.stays d
+
+  -- and nothing else is.
+  pub step_is : {at next : ℕ} {x : Reading (Option AnswerField)} → ReaderStep s at x next
+      → (field_of (field_at s at) ≡ x) × (place_after at (field_at s at) ≡ next)
+  unfolding field_of place_after
+  step_is {at} (ReaderStep.moves d) = let e = field_is d in (ap field_of e, ap (place_after at) e)
+  step_is {at} (ReaderStep.rests d) = let e = field_is d in (ap field_of e, ap (place_after at) e)
+  step_is {at} (ReaderStep.stays d) = let e = field_is d in (ap field_of e, ap (place_after at) e)
 
   -- How reading goes on from a place: behind a field, which ends ahead and inside the record; or not at all, since nothing more stands there or it is refused.
   pub data Turn (at : ℕ) : ReadField → Type 0 where
@@ -247,3 +267,15 @@ module _ (s : List ℕ) where
 
   pub answer_damaged : (r : Refusal) → read_from s 0 ≡ Err r → (r.number ≡ BAD_FIELD) × (r.place ≤ length s)
   answer_damaged r e = IfErr-at_err (λ r. (r.number ≡ BAD_FIELD) × (r.place ≤ length s)) e (refused_inside (answer_read 0) (omega arith))
+
+-- Of an answer that is read what was read is told,
+pub answer_told : (y : ReadAnswer) (x : Schedule) → y ≡ Ok x → told_schedule y ≡ x
+unfolding told_schedule
+answer_told y x e = ap told_schedule e
+
+-- and of one that is refused nothing.
+pub answer_untold : (x : ReadAnswer) (r : Refusal) → x ≡ Err r → NothingTold (told_schedule x)
+unfolding told_schedule
+answer_untold x r e =
+    rw e
+    (record { size = refl; owner = λ k. all_empty 0 LONGEST k; unlisted = λ i. all_empty {A = Option ℕ} None IDS i })

@@ -3,16 +3,21 @@
 use lib.ListN.{drop, get_or, length, length-append}
 use lib.Seq.{ext_get_or, get_or-append-add, length-sets, sets}
 use mathlib.Core.List.{List, [], ◌∷◌, ◌++◌}
-use mathlib.Core.Path.{◌≡◌, refl, sym, ◌∙◌, subst, subst₂}
+use mathlib.Core.Logic.{◌≢◌}
+use mathlib.Core.Path.{◌≡◌, refl, sym, ap, ◌∙◌, subst, subst₂}
 use native.Mathlib.Decide.{ℕ_discrete, dec_lt}
 use native.Mathlib.Omega.{arith}
 use Prim.Native.Nat.{ℕ, zero, suc, ◌+◌, ◌-◌, ◌*◌, ◌/◌, ◌≤◌, ◌<◌}
+use Rattle.std.specs.Prelude.{Ok, Err}
 use Rattle.archive.proofs.HandedLaws.{Gives, Handed, InRange, handed_over, handed_refused, high_limit, high_slot, write_refused, write_small, write_whole}
 use Rattle.archive.proofs.RequestStores.{fields_length, request_length, request_run}
 use Rattle.archive.proofs.WriterLaws.{Stop, floor_of}
 use Rattle.archive.specs.Put.{listing_fields, request_fields}
 use Rattle.archive.specs.RequestWrite.{area_written, bound_of, handed_request, id_of, k_of, write_request}
-use Rattle.archive.specs.Writes.{EntriesRise, RequestStands, RequestWritten}
+use Rattle.archive.specs.Told.{told_number, told_place, told_written}
+use Rattle.archive.specs.Writes.{EntriesRise, RequestStands, RequestTells, RequestWritten}
+use Rattle.numbers.specs.declared.Refusal.{Refusal}
+use Rattle.numbers.specs.Numbers.{ACCEPTED}
 use Rattle.records.proofs.AnswerPlaces.{agree, stand_behind, stand_first, stand_front}
 use Rattle.records.proofs.FieldStands.{number_length}
 use Rattle.records.proofs.SetsLaws.{sets_front, sets_rest}
@@ -154,3 +159,53 @@ module _ (slot : CoreSlot) (limit : ℕ) (listing area : List ℕ) where
       let g = request_gives x in
       let h = request_gives y in
       (g.0 ∙ sym h.0, g.1 ∙ sym h.1)
+
+  -- Writing a request tells what its cases say:
+  pub request_tells : RequestTells slot limit listing area
+      (told_number (write_request slot limit listing (length area)))
+      (told_place (write_request slot limit listing (length area)))
+      (told_written (write_request slot limit listing (length area)))
+      (area_written slot limit listing area)
+  unfolding told_number told_place told_written
+  request_tells = by (write_request slot limit listing (length area)) request_written
+    where
+      by : (w : Reading ℕ) → RequestWritten slot limit listing area w (area_written slot limit listing area)
+          → RequestTells slot limit listing area (told_number w) (told_place w) (told_written w) (area_written slot limit listing area)
+      by (Ok n) x = RequestTells.accepted x
+      by (Err r) x = RequestTells.refused x
+
+  -- Whatever its cases tell is what writing a request tells.
+  tells_is : {n p w : ℕ} {a : List ℕ} → RequestTells slot limit listing area n p w a
+      → (told_number (write_request slot limit listing (length area)) ≡ n) × (told_place (write_request slot limit listing (length area)) ≡ p)
+      × (told_written (write_request slot limit listing (length area)) ≡ w) × (area_written slot limit listing area ≡ a)
+  unfolding told_number told_place told_written
+  tells_is (RequestTells.refused x) =
+      let g = request_gives x in
+      let e = sym g.0 in
+      (ap told_number e, ap told_place e, ap told_written e, sym g.1)
+  tells_is (RequestTells.accepted x) =
+      let g = request_gives x in
+      let e = sym g.0 in
+      (ap told_number e, ap told_place e, ap told_written e, sym g.1)
+
+  -- The cases tell one number, one place, one count of bytes, and leave one area.
+  pub request_tells_one : {n p w n' p' w' : ℕ} {a b : List ℕ} → RequestTells slot limit listing area n p w a → RequestTells slot limit listing area n' p' w' b
+      → (n ≡ n') × (p ≡ p') × (w ≡ w') × (a ≡ b)
+  request_tells_one x y =
+      let g = tells_is x in
+      let h = tells_is y in
+      (sym g.0 ∙ h.0, sym g.1 ∙ h.1, sym g.2 ∙ h.2, sym g.3 ∙ h.3)
+
+  -- A refusal has another number than 0.
+  refused_number : {r : Refusal} {a : List ℕ} → RequestWritten slot limit listing area (Err r) a → r.number ≢ ACCEPTED
+  refused_number (RequestWritten.slot_high h) e = omega (arith, e)
+  refused_number (RequestWritten.limit_high h k) e = omega (arith, e)
+  refused_number (RequestWritten.out_of_range n h k i l f) e = omega (arith, e)
+  refused_number (RequestWritten.not_rising m h k i l f) e = omega (arith, e)
+  refused_number (RequestWritten.small n h k l i q) e = omega (arith, e)
+
+  -- Where number 0 is told, as many bytes are written as are told.
+  pub tells_written : {n p w : ℕ} {a : List ℕ} → RequestTells slot limit listing area n p w a → n ≡ ACCEPTED
+      → (write_request slot limit listing (length area) ≡ Ok w) × (area_written slot limit listing area ≡ a)
+  tells_written (RequestTells.accepted x) e = let g = request_gives x in (sym g.0, sym g.1)
+  tells_written (RequestTells.refused x) e = absurd (refused_number x e)

@@ -122,6 +122,11 @@ place_after at (Err r) = at
 abbrev pub ReadAnswer : Type 0
 ReadAnswer = Reading Schedule
 
+-- What an answer tells of the schedule: what was read, and of one that is refused nothing.
+unfoldable pub told_schedule : ReadAnswer → Schedule
+told_schedule (Ok x) = x
+told_schedule (Err r) = no_schedule
+
 -- How reading ends: with the refusal of a field, or with what was read. (Behind a field it goes on.)
 unfoldable pub read_end : Schedule → ReadField → ReadAnswer
 read_end x (Ok f) = Ok x

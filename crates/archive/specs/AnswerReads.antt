@@ -1,12 +1,13 @@
 -- docs/RULES.md 6.8 to 6.10: what reading an answer gives, said of the record's bytes and of what is read, not of how it is read.
-use Rattle.std.specs.Prelude.{get_or, length, true, false, List, ◌≢◌, ◌⊎◌, ◌≡◌, ℕ, ◌+◌, ◌≤◌, ◌<◌, Ok, Err, None}
-use Rattle.archive.specs.AnswerRead.{floor_at, step, told_length, with_field, ReadAnswer, ReadField}
+use Rattle.std.specs.Prelude.{get_or, length, true, false, List, ◌≢◌, ◌⊎◌, ◌≡◌, ℕ, ◌+◌, ◌≤◌, ◌<◌, Ok, Err, Some, None}
+use Rattle.std.specs.declared.option.Option.{Option}
+use Rattle.archive.specs.AnswerRead.{floor_at, id_offset, step, told_length, with_field, ReadAnswer, ReadField}
 use Rattle.archive.specs.declared.AnswerField.{AnswerField}
 use Rattle.archive.specs.declared.AnswerField.TheVariants.{Length, Owners, Offset}
 use Rattle.archive.specs.declared.Schedule.{Schedule}
 use Rattle.numbers.specs.declared.Refusal.{Refusal}
 use Rattle.numbers.specs.Numbers.{BAD_FIELD}
-use Rattle.records.specs.Request.{content_at, is_field}
+use Rattle.records.specs.Request.{content_at, is_field, Reading}
 use Rattle.slots.specs.Limits.{IDS, LONGEST}
 
 -- 3 at the place of the field, where the reader stays. (Where the record ends with a required field due, that place is its length.)
@@ -34,12 +35,27 @@ pub data FieldRead (s : List ℕ) : ℕ → ReadField → Type 0 where
       → (is_field s at 0x12 2 ≡ false) ⊎ (IDS ≤ content_at s at 0) ⊎ (content_at s at 0 < floor_at s at) → FieldRead s at (bad_field at)
   end : {at : ℕ} → at ≢ 0 → at ≢ 4 → length s ≤ at → FieldRead s at (Ok None)
 
+-- What the reader tells at a place, and its place afterwards.
+pub data ReaderStep (s : List ℕ) (at : ℕ) : Reading (Option AnswerField) → ℕ → Type 0 where
+  -- a field: it moves on behind it
+  moves : {f : AnswerField} {next : ℕ} → FieldRead s at (step f next) → ReaderStep s at (Ok (Some f)) next
+  -- nothing more: it stays
+  rests : FieldRead s at (Ok None) → ReaderStep s at (Ok None) at
+  -- a field that is refused: it stays
+  stays : {r : Refusal} → FieldRead s at (Err r) → ReaderStep s at (Err r) at
+
 -- How an answer is read from a place on, added to what was read before: a field and then the rest, or nothing more, or a field that is refused.
 pub data AnswerRead (s : List ℕ) : ℕ → Schedule → ReadAnswer → Type 0 where
   more : {at next : ℕ} {f : AnswerField} {x : Schedule} {y : ReadAnswer} → FieldRead s at (step f next) → at < next
       → AnswerRead s next (with_field s x f) y → AnswerRead s at x y
   whole : {at : ℕ} {x : Schedule} → FieldRead s at (Ok None) → AnswerRead s at x (Ok x)
   stop : {at : ℕ} {x : Schedule} {r : Refusal} → FieldRead s at (Err r) → AnswerRead s at x (Err r)
+
+-- Nothing is told: length 0, all owners 0, no id listed.
+pub record NothingTold (x : Schedule) : Type 0 where
+  pub size : x.length ≡ 0
+  pub owner : (k : ℕ) → get_or x.owners k 0 ≡ 0
+  pub unlisted : (i : ℕ) → id_offset x.offsets i ≡ None
 
 -- A schedule in range: at most 64 transition slots with owners 0 to 31 and 0 for the others.
 pub record ScheduleRange (x : Schedule) : Type 0 where

@@ -1,7 +1,8 @@
 -- docs/RULES.md 6.11 and 6.12: what the writer of requests gives, case by case and field by field. It says nothing of how it is written.
 use Rattle.std.specs.Prelude.{get_or, length, List, [], ◌∷◌, ◌≢◌, ◌≡◌, ℕ, suc, ◌+◌, ◌*◌, ◌≤◌, ◌<◌, Ok, Err}
 use Rattle.archive.specs.RequestWrite.{ask_at, bound_of, id_of, k_of}
-use Rattle.numbers.specs.Numbers.{SMALL_AREA, OUT_OF_RANGE, NOT_RISING}
+use Rattle.numbers.specs.declared.Refusal.{Refusal}
+use Rattle.numbers.specs.Numbers.{ACCEPTED, SMALL_AREA, OUT_OF_RANGE, NOT_RISING}
 use Rattle.records.specs.AnswerForm.{Stand}
 use Rattle.records.specs.declared.Ask.{Ask}
 use Rattle.records.specs.Request.{ask_of, no_ask, Reading}
@@ -55,6 +56,14 @@ pub data RequestWritten (slot : CoreSlot) (limit : ℕ) (listing area : List ℕ
   written : (n : ℕ) {after : List ℕ} → slot.0 ≤ LAST_SLOT → limit ≤ LONGEST → length listing ≡ 3 * n → EntriesRise listing n
       → 15 + 6 * n ≤ length area → RequestStands slot limit listing area n after
       → RequestWritten slot limit listing area (Ok (15 + 6 * n)) after
+
+-- What writing a request tells: its number, its place and how many bytes were written; and the area afterwards.
+pub data RequestTells (slot : CoreSlot) (limit : ℕ) (listing area : List ℕ) : ℕ → ℕ → ℕ → List ℕ → Type 0 where
+  -- a refusal: its number, its place, and 0 bytes
+  refused : {r : Refusal} {after : List ℕ} → RequestWritten slot limit listing area (Err r) after
+      → RequestTells slot limit listing area r.number r.place 0 after
+  -- a record: number 0, place 0, and its bytes
+  accepted : {n : ℕ} {after : List ℕ} → RequestWritten slot limit listing area (Ok n) after → RequestTells slot limit listing area ACCEPTED 0 n after
 
 -- What is asked for each id: what its entry says, and nothing where no entry has the id.
 pub record ListsEntries (listing : List ℕ) (asks : List Ask) : Type 0 where

@@ -14,8 +14,9 @@ use Rattle.archive.specs.declared.AnswerField.{AnswerField}
 use Rattle.archive.specs.declared.AnswerStep.{AnswerStep}
 use Rattle.archive.specs.declared.AnswerField.TheVariants.{Length, Owners, Offset}
 use Rattle.archive.specs.RequestWrite.{area_written, write_request}
+use Rattle.archive.specs.Told.{told_number, told_place, told_written}
 use Rattle.board.proofs.ScheduleLaws.{schedule_stands}
-use Rattle.board.specs.Archive.{AnswerTold, FieldTold, RequestTold, SCHEDULE, ScheduleStands, area_read, field_first, field_second, field_tag, read_number, read_place, schedule_bytes, told_number, told_place, told_written}
+use Rattle.board.specs.Archive.{AnswerTold, FieldTold, RequestTold, SCHEDULE, ScheduleStands, area_read, field_first, field_second, field_tag, read_number, read_place, schedule_bytes}
 use Rattle.numbers.specs.declared.Refusal.{Refusal}
 use Rattle.numbers.specs.Numbers.{ACCEPTED, SMALL_AREA}
 use Rattle.slots.specs.Clocks.{core_slot}

@@ -8,6 +8,7 @@ use Rattle.archive.specs.declared.AnswerField.{AnswerField}
 use Rattle.archive.specs.declared.AnswerField.TheVariants.{Length, Owners, Offset}
 use Rattle.archive.specs.declared.Schedule.{Schedule}
 use Rattle.archive.specs.RequestWrite.{area_written, write_request}
+use Rattle.archive.specs.Told.{told_number, told_place, told_written}
 use Rattle.numbers.specs.Numbers.{ACCEPTED, SMALL_AREA}
 use Rattle.records.specs.Request.{Reading}
 use Rattle.slots.specs.Clocks.{core_slot}
@@ -68,21 +69,6 @@ pub record AnswerTold (answer area : List ℕ) (number place : ℕ) (area-left :
   pub number_told : number ≡ read_number answer (length area)
   pub place_told : place ≡ read_place answer
   pub area_told : area-left ≡ area_read answer area
-
--- The number that a function in C returns: that of the refusal, else 0.
-unfoldable pub told_number : {A : Type 0} → Reading A → ℕ
-told_number (Ok x) = ACCEPTED
-told_number (Err r) = r.number
-
--- The place that it tells: that of the refusal, else 0.
-unfoldable pub told_place : {A : Type 0} → Reading A → ℕ
-told_place (Ok x) = 0
-told_place (Err r) = r.place
-
--- How many bytes it tells as written: 0 after a refusal.
-unfoldable pub told_written : Reading ℕ → ℕ
-told_written (Ok n) = n
-told_written (Err r) = 0
 
 -- What writing a request returns and leaves.
 pub record RequestTold (slot limit : ℕ) (listing area : List ℕ) (number place written : ℕ) (area-left : List ℕ) : Type 0 where

@@ -14,10 +14,10 @@ use Rattle.std.specs.Prelude.{Ok, Err}
 use Rattle.records.specs.declared.Request.{Request}
 use Rattle.archive.proofs.AnswerBack.{answer_back}
 use Rattle.archive.proofs.AnswerForms.{answer_form_lem, answer_owner, answer_range}
-use Rattle.archive.proofs.AnswerSteps.{answer_damaged, answer_is, answer_read, field_is, field_read}
-use Rattle.archive.proofs.RequestPlaces.{request_written, request_written_one}
+use Rattle.archive.proofs.AnswerSteps.{answer_damaged, answer_is, answer_read, answer_told, answer_untold, field_is, field_read, step_is, step_read}
+use Rattle.archive.proofs.RequestPlaces.{request_tells, request_tells_one, request_written, request_written_one}
 use Rattle.archive.proofs.WrittenBack.{accepted_whole, handed_lists, written_back}
-use Rattle.archive.specs.AnswerRead.{read_answer}
+use Rattle.archive.specs.AnswerRead.{read_answer, read_from}
 use Rattle.change.proofs.Answers.{Gets, refused, accepted, no_slot, no_length, gets, accepted_continues, record_accepted, record_none, refusal_number}
 use Rattle.change.proofs.AsBefore.{behind_named}
 use Rattle.change.proofs.GivenLaws.{at_request, gives, wanting_number}
@@ -372,8 +372,12 @@ answers_read = record {
   changed = λ t s area e.
       let bytes = record_of (answer t s (length area)) in
       ap read_answer (sets_taken area bytes (length bytes) refl (held t s (length area)).fits) ∙ accepted_read t s (length area) e;
+  told = λ s at x e. answer_told (read_from s at) x e;
+  untold = λ s at r e. answer_untold (read_from s at) r e;
   field = λ s at. field_read s at;
   field_only = λ s at x d. field_is s d;
+  step = λ s at. step_read s at;
+  step_only = λ s at x next d. step_is s d;
   owner = λ s x e n. answer_owner s x e n;
 }
 
@@ -382,6 +386,8 @@ unfolding requested
 requests_written = record {
   given = λ slot limit listing area. request_written slot limit listing area;
   one = λ slot limit listing area r r' out out' a b. request_written_one slot limit listing area a b;
+  told = λ slot limit listing area. request_tells slot limit listing area;
+  told_one = λ slot limit listing area n p w n' p' w' out out' a b. request_tells_one slot limit listing area a b;
   read = λ slot limit listing area n e.
       let l = handed_lists slot limit listing (accepted_whole slot limit listing area n e) in
       rw (written_back slot limit listing area n e, requested) (record { read = refl; same_slot = l.0; same_limit = l.1; lists = l.2 });

@@ -8,9 +8,12 @@ use mathlib.Core.Path.{◌≡◌, refl, sym, ap, ◌∙◌, subst, subst₂}
 use Prim.Native.Nat.{ℕ}
 use native.Mathlib.Omega.{arith}
 use Rattle.std.specs.Prelude.{Ok}
+use Rattle.archive.proofs.RequestPlaces.{tells_written}
 use Rattle.archive.specs.AnswerRead.{no_schedule, read_answer, schedule_of}
-use Rattle.archive.specs.AnswerReads.{AnswerRead, FieldRead}
-use Rattle.archive.specs.Writes.{RequestWritten}
+use Rattle.archive.specs.AnswerReads.{AnswerRead, FieldRead, ReaderStep}
+use Rattle.archive.specs.RequestWrite.{write_request}
+use Rattle.archive.specs.Told.{told_number, told_place}
+use Rattle.archive.specs.Writes.{RequestTells, RequestWritten}
 use Rattle.change.proofs.Answers.{refusal_number}
 use Rattle.change.proofs.GivenLaws.{wanting_number}
 use Rattle.change.proofs.Histories.{sent_accepted, sent_refused}
@@ -147,6 +150,10 @@ archive_of_code = record {
     (λ e. subst (FieldRead s at) (sym e) (answers_read.field s at)),
     (λ d. sym (answers_read.field_only s at x d)),
   );
+  next = λ s at x next. (
+    (λ m. subst₂ (ReaderStep s at) (sym m.0) (sym m.1) (answers_read.step s at)),
+    (λ d. let e = answers_read.step_only s at x next d in (sym e.0, sym e.1)),
+  );
   owner = λ s x e n o told. told ∙ answers_read.owner s x e n;
   changed = λ t s area r out m e x read.
       read
@@ -157,7 +164,19 @@ archive_of_code = record {
     (λ m. subst₂ (RequestWritten slot limit listing area) (sym m.0) (sym m.1) (requests_written.given slot limit listing area)),
     (λ d. requests_written.one slot limit listing area w _ out _ d (requests_written.given slot limit listing area)),
   );
+  told = λ slot limit listing area number place written out. (
+    (λ m.
+        let w = write_request slot limit listing (length area) in
+        subst₂ (λ (n p : ℕ). RequestTells slot limit listing area n p written out) (sym m.0) (sym m.1)
+        (subst₂ (λ (b : ℕ) (a : List ℕ). RequestTells slot limit listing area (told_number w) (told_place w) b a) (sym m.2) (sym m.3)
+        (requests_written.told slot limit listing area))),
+    (λ d. requests_written.told_one slot limit listing area number place written _ _ _ out _ d (requests_written.told slot limit listing area)),
+  );
   read = λ slot limit listing area w out m p n e.
       subst (λ (a : List ℕ). ReadAs slot limit listing (read_request (take n a))) (sym p)
       (requests_written.read slot limit listing area n (sym m ∙ e));
+  told_read = λ slot limit listing area number place written out d e.
+      let w = tells_written slot limit listing area d e in
+      subst (λ (a : List ℕ). ReadAs slot limit listing (read_request (take written a))) w.1
+      (requests_written.read slot limit listing area written w.0);
 }

@@ -1,10 +1,13 @@
 -- docs/RULES.md 1.4 to 1.12, demands 1 to 3 and what lab, service screen, desk, lab network and method software read, of the code: of whatever meets the contract of `change`, of a query, of the reader of answers or the writer of requests, and of a controller that is made of such calls.
 use Rattle.std.specs.Prelude.{get_or, length, take, true, List, [], ◌∷◌, ◌↔◌, ◌≢◌, ◌≡◌, ℕ, ◌-◌, ◌≤◌, ◌<◌, Ok}
+use Rattle.std.specs.declared.option.Option.{Option}
+use Rattle.archive.specs.declared.AnswerField.{AnswerField}
 use Rattle.archive.specs.declared.Schedule.{Schedule}
-use Rattle.archive.specs.AnswerRead.{field_at, no_schedule, read_answer, read_from, schedule_of, told_owner, ReadAnswer, ReadField}
-use Rattle.archive.specs.AnswerReads.{AnswerRead, FieldRead}
+use Rattle.archive.specs.AnswerRead.{field_at, field_of, no_schedule, place_after, read_answer, read_from, schedule_of, told_owner, ReadAnswer, ReadField}
+use Rattle.archive.specs.AnswerReads.{AnswerRead, FieldRead, ReaderStep}
 use Rattle.archive.specs.RequestWrite.{area_written, write_request}
-use Rattle.archive.specs.Writes.{RequestWritten}
+use Rattle.archive.specs.Told.{told_number, told_place, told_written}
+use Rattle.archive.specs.Writes.{RequestTells, RequestWritten}
 use Rattle.change.specs.Change.{outcome, area_after}
 use Rattle.change.specs.declared.Outcome.{Outcome}
 use Rattle.change.specs.declared.OwnerAnswer.{OwnerAnswer}
@@ -115,10 +118,18 @@ pub record QueriesOfCode : Type 0 where
 pub record ArchiveOfCode : Type 0 where
   pub answer : (s : List ℕ) (at : ℕ) (x : ReadAnswer) → (x ≡ read_from s at) ↔ AnswerRead s at no_schedule x
   pub field : (s : List ℕ) (at : ℕ) (x : ReadField) → (x ≡ field_at s at) ↔ FieldRead s at x
+  pub next : (s : List ℕ) (at : ℕ) (x : Reading (Option AnswerField)) (next : ℕ)
+      → ((x ≡ field_of (field_at s at)) × (next ≡ place_after at (field_at s at))) ↔ ReaderStep s at x next
   pub owner : (s : List ℕ) (x : Schedule) → read_answer s ≡ Ok x → (n o : ℕ) → o ≡ told_owner s n → o ≡ get_or x.owners n 0
   pub changed : (t : Timetable) (s area : List ℕ) (r : Outcome) (out : List ℕ) → Meets t s area r out → r.number ≡ ACCEPTED
       → (x : ReadAnswer) → x ≡ read_answer (take r.written out) → x ≡ Ok (schedule_of r.timetable)
   pub request : (slot : CoreSlot) (limit : ℕ) (listing area : List ℕ) (w : Reading ℕ) (out : List ℕ)
       → ((w ≡ write_request slot limit listing (length area)) × (out ≡ area_written slot limit listing area)) ↔ RequestWritten slot limit listing area w out
+  pub told : (slot : CoreSlot) (limit : ℕ) (listing area : List ℕ) (number place written : ℕ) (out : List ℕ)
+      → ((number ≡ told_number (write_request slot limit listing (length area))) × (place ≡ told_place (write_request slot limit listing (length area)))
+      × (written ≡ told_written (write_request slot limit listing (length area))) × (out ≡ area_written slot limit listing area))
+      ↔ RequestTells slot limit listing area number place written out
   pub read : (slot : CoreSlot) (limit : ℕ) (listing area : List ℕ) (w : Reading ℕ) (out : List ℕ) → w ≡ write_request slot limit listing (length area)
       → out ≡ area_written slot limit listing area → (n : ℕ) → w ≡ Ok n → ReadAs slot limit listing (read_request (take n out))
+  pub told_read : (slot : CoreSlot) (limit : ℕ) (listing area : List ℕ) (number place written : ℕ) (out : List ℕ)
+      → RequestTells slot limit listing area number place written out → number ≡ ACCEPTED → ReadAs slot limit listing (read_request (take written out))

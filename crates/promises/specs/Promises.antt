@@ -2,11 +2,14 @@
 -- computed; proofs/Kept.antt proves each under its name. Two wrong programs that a promise shuts out stand under it.
 use Rattle.std.specs.Prelude.{get_or, length, take, false, true, List, [], ◌∷◌, ◌↔◌, ◌≢◌, ◌⊎◌, ◌≡◌, ℕ, suc, ◌+◌, ◌-◌, ◌*◌, ◌≤◌, ◌<◌, IsOk, Err, Ok}
 use Rattle.std.proofs.Math.Option.{none, some}
-use Rattle.archive.specs.AnswerRead.{field_at, no_schedule, read_answer, read_from, schedule_of, schedule_record, told_owner, ReadAnswer, ReadField}
-use Rattle.archive.specs.AnswerReads.{AnswerRead, FieldRead, ScheduleRange}
+use Rattle.std.specs.declared.option.Option.{Option}
+use Rattle.archive.specs.AnswerRead.{field_at, field_of, no_schedule, place_after, read_answer, read_from, schedule_of, schedule_record, told_owner, told_schedule, ReadAnswer, ReadField}
+use Rattle.archive.specs.AnswerReads.{AnswerRead, FieldRead, NothingTold, ReaderStep, ScheduleRange}
+use Rattle.archive.specs.declared.AnswerField.{AnswerField}
 use Rattle.archive.specs.declared.Schedule.{Schedule}
 use Rattle.archive.specs.RequestWrite.{area_written, write_request}
-use Rattle.archive.specs.Writes.{ListsEntries, RequestWritten}
+use Rattle.archive.specs.Told.{told_number, told_place, told_written}
+use Rattle.archive.specs.Writes.{ListsEntries, RequestTells, RequestWritten}
 use Rattle.change.specs.Change.{outcome, area_after, start_plan}
 use Rattle.change.specs.Controller.{Sent, history_of, send}
 use Rattle.change.specs.declared.Outcome.{Outcome}
@@ -219,7 +222,8 @@ RaisingT = (t : Timetable) (s s' area : List ℕ) → LargerT s s'
 -- 14. Reading an answer. Each record is read, or refused 3 at the one place, as its fields say, from its start and from any place on; one that is read is
 -- the one record of what was read, and what was read is in range; a schedule in range is read back from its record; and reading what a change wrote gives
 -- back the new timetable's length, owners and offsets.
--- (Shuts out: an id that equals the one before let through; bytes after the last field ignored; every fault told at place 0.)
+-- (Shuts out: an id that equals the one before let through; bytes after the last field ignored; every fault told at place 0; the reader back at the start
+-- where a field is refused.)
 pub record AnswersRead : Type 0 where
   pub given : (s : List ℕ) (at : ℕ) → AnswerRead s at no_schedule (read_from s at)
   pub only : (s : List ℕ) (at : ℕ) (x : ReadAnswer) → AnswerRead s at no_schedule x → read_from s at ≡ x
@@ -229,9 +233,16 @@ pub record AnswersRead : Type 0 where
   pub back : (x : Schedule) → ScheduleRange x → read_answer (schedule_record x) ≡ Ok x
   pub changed : (t : Timetable) (s area : List ℕ) → (outcome t s area).number ≡ ACCEPTED
       → read_answer (take (outcome t s area).written (area_after t s area)) ≡ Ok (schedule_of (outcome t s area).timetable)
+  -- of one that is read what was read is told, and of one that is refused nothing
+  pub told : (s : List ℕ) (at : ℕ) (x : Schedule) → read_from s at ≡ Ok x → told_schedule (read_from s at) ≡ x
+  pub untold : (s : List ℕ) (at : ℕ) (r : Refusal) → read_from s at ≡ Err r → NothingTold (told_schedule (read_from s at))
   -- a field at a time: what stands at a place is one thing, and it is what the reader tells there; and the owner that it tells for a slot is the one read
   pub field : (s : List ℕ) (at : ℕ) → FieldRead s at (field_at s at)
   pub field_only : (s : List ℕ) (at : ℕ) (x : ReadField) → FieldRead s at x → field_at s at ≡ x
+  -- and the reader's place afterwards: behind the field, or where it was
+  pub step : (s : List ℕ) (at : ℕ) → ReaderStep s at (field_of (field_at s at)) (place_after at (field_at s at))
+  pub step_only : (s : List ℕ) (at : ℕ) (x : Reading (Option AnswerField)) (next : ℕ) → ReaderStep s at x next
+      → (field_of (field_at s at) ≡ x) × (place_after at (field_at s at) ≡ next)
   pub owner : (s : List ℕ) (x : Schedule) → read_answer s ≡ Ok x → (n : ℕ) → told_owner s n ≡ get_or x.owners n 0
 
 -- A request that was read, as this slot, T and listing.
@@ -243,12 +254,22 @@ pub record ReadAs (slot : CoreSlot) (limit : ℕ) (listing : List ℕ) (x : Read
 
 -- 15. Writing a request. What is returned and the area afterwards are what the rules give, case by case, and those leave one of each; and the controller
 -- reads what was written as the same slot and T, and as a listing that asks for each entry's id what the entry says, and for no other id anything.
--- (Shuts out: a short field written for R 1; the area looked at before the entries; a cut-short entry dropped.)
+-- (Shuts out: a short field written for R 1; the area looked at before the entries; a cut-short entry dropped; a byte told as written on a refusal.)
 pub record RequestsWritten : Type 0 where
   pub given : (slot : CoreSlot) (limit : ℕ) (listing area : List ℕ)
       → RequestWritten slot limit listing area (write_request slot limit listing (length area)) (area_written slot limit listing area)
   pub one : (slot : CoreSlot) (limit : ℕ) (listing area : List ℕ) (r r' : Reading ℕ) (out out' : List ℕ) → RequestWritten slot limit listing area r out
       → RequestWritten slot limit listing area r' out' → (r ≡ r') × (out ≡ out')
+  -- what is told of it: the refusal's number, its place and 0 bytes, or number 0, place 0 and the bytes written
+  pub told : (slot : CoreSlot) (limit : ℕ) (listing area : List ℕ)
+      → RequestTells slot limit listing area
+      (told_number (write_request slot limit listing (length area)))
+      (told_place (write_request slot limit listing (length area)))
+      (told_written (write_request slot limit listing (length area)))
+      (area_written slot limit listing area)
+  pub told_one : (slot : CoreSlot) (limit : ℕ) (listing area : List ℕ) (n p w n' p' w' : ℕ) (out out' : List ℕ)
+      → RequestTells slot limit listing area n p w out → RequestTells slot limit listing area n' p' w' out'
+      → (n ≡ n') × (p ≡ p') × (w ≡ w') × (out ≡ out')
   pub read : (slot : CoreSlot) (limit : ℕ) (listing area : List ℕ) (n : ℕ) → write_request slot limit listing (length area) ≡ Ok n
       → ReadAs slot limit listing (read_request (take n (area_written slot limit listing area)))
 
