@@ -17,6 +17,7 @@ pub mod Bits
 pub mod Marks
 pub mod TakenLaws
 pub mod OwnerLaws
+pub mod OneOwner
 pub mod Filling
 pub mod FitLaws
 pub mod WalkLaws
