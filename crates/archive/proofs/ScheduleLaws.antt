@@ -68,6 +68,13 @@ module _ (s : List ℕ) where
           (ap (λ (x : ℕ). get_or front_and_zeros x 0) m ∙ get_or-append-add front zeros (k - n) 0 ∙ get_or-drop n (replicate LONGEST 0) (k - n) 0
           ∙ ap (λ (x : ℕ). get_or (replicate LONGEST 0) x 0) j ∙ get_or-replicate LONGEST k 0 0 l)
 
+  -- Where the transition has no slot, the owners are zeros.
+  pub owners_none : told_length s ≡ 0 → replicate LONGEST 0 ≡ owners_below s LONGEST
+  unfolding told_owner
+  owners_none e =
+      owners_are LONGEST (replicate LONGEST 0) (length-replicate {A = ℕ} LONGEST 0)
+      (λ k h. get_or-replicate LONGEST k 0 0 h ∙ sym (rw (le-ltb k (told_length s) (omega arith)) refl))
+
 -- What is said of id i is what its entry says.
 pub placed_map : (es : List Entry) (i : ℕ) → id_offset (map entry_offset es) i ≡ entry_offset (entry_of es i)
 placed_map es i = get_or-map entry_offset es i no_entry

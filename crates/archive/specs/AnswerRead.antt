@@ -127,6 +127,11 @@ unfoldable pub told_schedule : ReadAnswer → Schedule
 told_schedule (Ok x) = x
 told_schedule (Err r) = no_schedule
 
+-- An answer as it was read into a schedule that was lent.
+abbrev pub read_into : Schedule → Reading (Unit {0}) → ReadAnswer
+read_into x (Ok _) = Ok x
+read_into x (Err r) = Err r
+
 -- How reading ends: with the refusal of a field, or with what was read. (Behind a field it goes on.)
 unfoldable pub read_end : Schedule → ReadField → ReadAnswer
 read_end x (Ok f) = Ok x

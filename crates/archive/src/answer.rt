@@ -1,9 +1,9 @@
 // Reading an answer in a record that is lent, by its places. It refuses 3 for every other form than the controller's, at the place of the field in which that shows.
-ghost use Rattle.std.specs.Prelude.{◌≢◌, ◌≡◌, ◌+◌, ◌≤◌, ◌<◌, leb, length, replicate, Err, None};
-ghost use Rattle.archive.specs.AnswerRead.{are_owners, field_at, floor_at, length_field, length_stands, no_schedule, offset_field, offset_stands, owners_below, owners_field, owners_stand, read_from, told_length, told_owner};
+ghost use Rattle.std.specs.Prelude.{◌≢◌, ◌≡◌, ◌+◌, ◌≤◌, ◌<◌, leb, length, replicate, Err};
+ghost use Rattle.archive.specs.AnswerRead.{are_owners, field_at, floor_at, length_field, length_stands, no_schedule, offset_field, offset_stands, owners_below, owners_field, owners_stand, read_from, read_into, told_length, told_owner};
 ghost use Rattle.archive.specs.AnswerReads.{AnswerRead};
 ghost use Rattle.numbers.specs.Numbers.{BAD_FIELD, refusal};
-ghost use Rattle.slots.specs.Limits.{IDS, LONGEST};
+ghost use Rattle.slots.specs.Limits.{LONGEST};
 
 use super::{AnswerField, AnswerStep, Schedule};
 use numbers::Refusal;
@@ -24,13 +24,23 @@ const OFFSET_FIELD: usize = 5;
 pub fn rest_at(s: &[u8], from: usize) -> Result<Schedule, Refusal>
     ensures { result ≡ read_from s.now from }
 {
+    let mut x = Schedule::empty();
+    rest_into(s, from, &mut x)?;
+    Ok(x)
+}
+
+// The same, into an empty schedule that is lent. (Handed back in a Result it is copied, an `Option` at a time: reading an answer took up to four times as long.)
+pub(crate) fn rest_into(s: &[u8], from: usize, x: &mut Schedule) -> Result<(), Refusal>
+    requires { x.old ≡ no_schedule }
+    ensures { read_into x.new result ≡ read_from s.now from }
+{
     if from == 0 {
-        return from_length(s);
+        return from_length(s, x);
     }
     if from == OWNERS_AT {
-        return from_owners(s, 0);
+        return from_owners(s, x);
     }
-    from_offsets(s, from, 0, [0; Timetable::LONGEST])
+    from_offsets(s, from, x)
 }
 
 // What stands at a place: a field, nothing more, or the refusal.
@@ -158,15 +168,16 @@ fn are_owners(s: &[u8], size: u8) -> bool
     are
 }
 
-// The owners of all transition slots, and 0 for those that the transition does not have.
-fn owners_of(s: &[u8]) -> [u8; Timetable::LONGEST]
-    requires { (told_length s.now ≤ LONGEST) × (7 + told_length s.now ≤ length s.now) }
-    ensures { result ≡ owners_below s.now LONGEST }
+// Puts the owners of the transition slots over zeros, which stay for the slots that the transition does not have. (Where it has none nothing is copied: the call alone would take a tenth of the time.)
+fn put_owners(s: &[u8], owners: &mut [u8; Timetable::LONGEST])
+    requires zeros { owners.old ≡ replicate LONGEST 0 }
+    requires told { (told_length s.now ≤ LONGEST) × (7 + told_length s.now ≤ length s.now) }
+    ensures { owners.new ≡ owners_below s.now LONGEST }
 {
     let count = told_length(s) as usize;
-    let mut owners = [0; Timetable::LONGEST];
-    owners[..count].copy_from_slice(&s[FIRST_OWNER..FIRST_OWNER + count]);
-    owners
+    if 0 < count {
+        owners[..count].copy_from_slice(&s[FIRST_OWNER..FIRST_OWNER + count]);
+    }
 }
 
 // The owner of transition slot n, or 0 where the transition does not have it.
@@ -193,52 +204,45 @@ fn is_above(s: &[u8], at: usize, id: u8) -> bool
     s[at - 2] < id
 }
 
-// What is read from the length on.
-fn from_length(s: &[u8]) -> Result<Schedule, Refusal>
-    ensures { AnswerRead s.now 0 no_schedule result }
+// What is read from the length on, added to what was read before.
+fn from_length(s: &[u8], x: &mut Schedule) -> Result<(), Refusal>
+    requires { x.old.owners ≡ replicate LONGEST 0 }
+    ensures { AnswerRead s.now 0 x.old (read_into x.new result) }
 {
     if !length_stands(s) {
         return Err(bad_field(0));
     }
-    from_owners(s, told_length(s))
+    x.length = told_length(s);
+    from_owners(s, x)
 }
 
-// What is read from the owners on, behind this length.
-fn from_owners(s: &[u8], told: u8) -> Result<Schedule, Refusal>
-    ensures { AnswerRead s.now 4 (record { length = told; owners = replicate LONGEST 0; offsets = replicate IDS None }) result }
+// What is read from the owners on, added to what was read before.
+fn from_owners(s: &[u8], x: &mut Schedule) -> Result<(), Refusal>
+    requires { x.old.owners ≡ replicate LONGEST 0 }
+    ensures { AnswerRead s.now 4 x.old (read_into x.new result) }
 {
     if !owners_stand(s) {
         return Err(bad_field(OWNERS_AT));
     }
-    let owners = owners_of(s);
-    from_offsets(s, FIRST_OWNER + (told_length(s) as usize), told, owners)
+    put_owners(s, &mut x.owners);
+    from_offsets(s, FIRST_OWNER + (told_length(s) as usize), x)
 }
 
-// What is read from the offsets on, behind this length and these owners.
-fn from_offsets(
-    s: &[u8],
-    from: usize,
-    told: u8,
-    owners: [u8; Timetable::LONGEST],
-) -> Result<Schedule, Refusal>
+// What is read from the offsets on, added to what was read before.
+fn from_offsets(s: &[u8], from: usize, x: &mut Schedule) -> Result<(), Refusal>
     requires { (from ≢ 0) × (from ≢ 4) }
-    ensures { AnswerRead s.now from (record { length = told; owners = owners; offsets = replicate IDS None }) result }
+    ensures { AnswerRead s.now from x.old (read_into x.new result) }
 {
-    let mut offsets = [None; Timetable::IDS];
     let mut at = from;
     // No for loop: only the field itself tells whether one stands there.
     while offset_stands(s, at) {
         let id = content_at(s, at, 0);
         let offset = content_at(s, at, 1);
-        offsets[id as usize] = Some(offset);
+        x.offsets[id as usize] = Some(offset);
         at += OFFSET_FIELD;
     }
     if at < s.len() {
         return Err(bad_field(at));
     }
-    Ok(Schedule {
-        length: told,
-        owners,
-        offsets,
-    })
+    Ok(())
 }

@@ -1,6 +1,9 @@
 // Archived answers read and requests written, for the lab network. What the controller does not do itself stands here.
 #![tactic(auto)]
 
+ghost use Rattle.std.specs.Prelude.{◌≡◌};
+ghost use Rattle.archive.specs.AnswerRead.{no_schedule};
+
 use timetable::Timetable;
 
 pub mod answer; // answer.rt: what stands at a place of an answer, and from there on
@@ -15,11 +18,11 @@ pub enum AnswerField {
     Offset(u8, u8),
 }
 
-// A field that stands at a place, and the place after it.
+// A field that stands at a place, and the place after it. (The place first: so it lies where a refusal's lies, and a step is told from a refusal without a byte moved.)
 #[derive(Clone, Copy)]
 pub struct AnswerStep {
-    pub field: AnswerField,
     pub next: usize,
+    pub field: AnswerField,
 }
 
 // What an answer says: the transition's length and its owners, and the offset of each id that it lists. (Arrays with a length beside them: there is no heap.)
@@ -28,4 +31,17 @@ pub struct Schedule {
     pub length: u8,
     pub owners: [u8; Timetable::LONGEST],
     pub offsets: [Option<u8>; Timetable::IDS],
+}
+
+impl Schedule {
+    // A schedule that says nothing.
+    pub fn empty() -> Schedule
+        ensures { result ≡ no_schedule }
+    {
+        Schedule {
+            length: 0,
+            owners: [0; Timetable::LONGEST],
+            offsets: [None; Timetable::IDS],
+        }
+    }
 }

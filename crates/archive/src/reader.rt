@@ -1,6 +1,6 @@
 // A reader of answers: it keeps the record and its place between fields. Its functions are thin, over those of answer.rt.
 ghost use Rattle.std.specs.Prelude.{◌≡◌};
-ghost use Rattle.archive.specs.AnswerRead.{field_at, field_of, place_after, told_owner, read_answer, read_from};
+ghost use Rattle.archive.specs.AnswerRead.{field_at, field_of, no_schedule, place_after, told_owner, read_answer, read_from, read_into};
 
 use super::{AnswerField, Schedule, answer};
 use numbers::Refusal;
@@ -51,4 +51,12 @@ pub fn read_answer(s: &[u8]) -> Result<Schedule, Refusal>
     ensures { result ≡ read_answer s.now }
 {
     AnswerReader::new(s).rest()
+}
+
+// The same, into an empty schedule that is lent.
+pub fn read_into(s: &[u8], x: &mut Schedule) -> Result<(), Refusal>
+    requires { x.old ≡ no_schedule }
+    ensures { read_into x.new result ≡ read_answer s.now }
+{
+    answer::rest_into(s, 0, x)
 }

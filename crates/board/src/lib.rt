@@ -6,7 +6,7 @@ ghost use Rattle.archive.specs.AnswerRead.{field_at};
 ghost use Rattle.board.specs.Archive.{AnswerTold, FieldTold, RequestTold};
 ghost use Rattle.board.specs.Image.{Changed, OwnerTold, StandingTold, empty_image, empty_number, image_owner, image_standing};
 
-use archive::AnswerField;
+use archive::{AnswerField, Schedule};
 use change::queries::{owner_query, standing_query};
 use numbers::Refusal;
 use records::write::{LENGTH_TAG, OFFSET_TAG, OWNERS_TAG, write_answer};
@@ -109,17 +109,18 @@ pub fn tarnflaw_standing(
 pub fn tarnflaw_read_answer(answer: &[u8], area: &mut [u8], place: &mut usize) -> u8
     ensures { AnswerTold answer.now area.old result place.new area.new }
 {
-    match archive::reader::read_answer(answer) {
+    let mut x = Schedule::empty();
+    match archive::reader::read_into(answer, &mut x) {
         Err(refusal) => {
             *place = refusal.place;
             refusal.number
         }
-        Ok(x) => {
+        Ok(_) => {
             *place = 0;
             if area.len() < SCHEDULE {
                 return Refusal::SMALL_AREA;
             }
-            schedule::put_schedule(area, x);
+            schedule::put_schedule(area, &x);
             Refusal::ACCEPTED
         }
     }

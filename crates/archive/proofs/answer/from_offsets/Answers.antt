@@ -1,15 +1,11 @@
--- The invariant: what is read from `at` on, added to the offsets so far, is what is read from the first place on. Assumes nothing.
-use lib.ListN.{length-replicate, length-set}
+-- The invariant: what is read from `at` on, added to what was read so far, is what is read from the first place on. Assumes nothing.
 use mathlib.Core.Bool.{true}
 use mathlib.Core.List.{List}
 use mathlib.Core.Path.{◌≡◌, sym, ◌∙◌}
 use native.Mathlib.Omega.{arith}
 use Prim.Native.Nat.{ℕ}
 use Rattle.archive.proofs.AnswerSteps.{offset_ends, offset_goes, offset_inside, offset_stops}
-use Rattle.std.specs.declared.option.Option.{Option}
-use Rattle.std.specs.Prelude.{None}
 use Rattle.archive.specs.AnswerRead.{offset_stands}
-use Rattle.slots.specs.Limits.{IDS}
 use Rattle.archive.proofs.answer.from_offsets.Goals as goal
 
 -- The offset that is read stands.
@@ -17,7 +13,7 @@ abbrev Stands : List ℕ → ℕ → Type 0
 Stands s at = offset_stands s at ≡ true
 
 pub loop-id-init : goal.loop-id-init
-loop-id-init c = (c.requires.0, c.requires.1, length-replicate {A = Option ℕ} IDS None, λ y d. d)
+loop-id-init c = (c.requires.0, c.requires.1, λ y d. d)
 
 pub offset_stands-requires : goal.offset_stands-requires
 offset_stands-requires c = omega (arith, c.loop-id.invariant.0)
@@ -33,12 +29,6 @@ content_at-offset-requires c =
     let stands : Stands c.args.s.now c.loop-id.at =
     sym c.offset_stands.ensures ∙ c.loop-id-test.true in
     omega (arith, (offset_inside _ _ stands).0)
-
-pub bounds-offsets-id : goal.bounds-offsets-id
-bounds-offsets-id c =
-    let stands : Stands c.args.s.now c.loop-id.at =
-    sym c.offset_stands.ensures ∙ c.loop-id-test.true in
-    omega (arith, (offset_inside _ _ stands).1, c.content_at-id.ensures)
 
 pub overflow_add-at : goal.overflow_add-at
 overflow_add-at c =
@@ -60,8 +50,7 @@ loop-id-preserved c =
     let s = c.args.s.now in (
       omega arith,
       omega arith,
-      length-set l.offsets _ _ ∙ l.invariant.2,
-      λ y d. l.invariant.3 y (offset_goes s _ l.at l.invariant.0 l.invariant.1 y _ _ c.content_at-id.ensures c.content_at-offset.ensures stands d),
+      λ y d. l.invariant.2 y (offset_goes s l.x l.at l.invariant.0 l.invariant.1 y _ _ c.content_at-id.ensures c.content_at-offset.ensures stands d),
     )
 
 pub returns-then-at-s : goal.returns-then-at-s
@@ -69,9 +58,9 @@ returns-then-at-s c =
     let a = c.args in
     let l = c.loop-id in
     rw c.bad_field.ensures
-    (l.invariant.3 _ (offset_stops a.s.now _ l.at l.invariant.0 l.invariant.1 (sym c.offset_stands.ensures ∙ c.loop-id-test.false) c.if-at-s.true))
+    (l.invariant.2 _ (offset_stops a.s.now l.x l.at l.invariant.0 l.invariant.1 (sym c.offset_stands.ensures ∙ c.loop-id-test.false) c.if-at-s.true))
 
 pub returns : goal.returns
 returns c =
     let l = c.loop-id in
-    l.invariant.3 _ (offset_ends _ _ l.at l.invariant.0 l.invariant.1 c.if-at-s.false)
+    l.invariant.2 _ (offset_ends _ l.x l.at l.invariant.0 l.invariant.1 c.if-at-s.false)

@@ -18,8 +18,11 @@ loop-id-preserved c =
       byte_next listed_byte refl c.args.area.now LISTED_AT c.args.offsets.now (search rules) l.area l.id _ (omega arith) l.invariant.1 (search rules),
     )
 
-pub returns : goal.returns
-returns c =
+pub returns-clause-listed : goal.returns-clause-listed
+returns-clause-listed c =
     let l = c.loop-id in
     let n : l.id ≡ IDS = omega arith in
     (rw n at l.invariant.1) ∙ bytes_all listed_byte refl c.args.area.now LISTED_AT c.args.offsets.now (search rules)
+
+pub returns-clause-ids : goal.returns-clause-ids
+returns-clause-ids c = search rules
