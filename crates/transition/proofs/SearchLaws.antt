@@ -3,8 +3,9 @@ use lib.ListN.{get_or, length}
 use lib.Seq.{ext_get_or}
 use mathlib.Core.Bool.{Bool, true, false}
 use mathlib.Core.List.{List}
+use mathlib.Core.Logic.{◌≢◌}
 use mathlib.Core.Option.{Option, none, some}
-use mathlib.Core.Path.{◌≡◌, refl, sym, ap, ◌∙◌, subst}
+use mathlib.Core.Path.{◌≡◌, refl, sym, ap, ap₂, ◌∙◌, subst}
 use native.Mathlib.Nat.{sub-zero}
 use native.Mathlib.Numerals.{add-one}
 use native.Mathlib.Omega.{arith}
@@ -126,27 +127,31 @@ module _ (plan next : Plan) where
 
 -- ---- the turns
 
--- The search stands at length n: so many lengths were passed over, what is left is the search from here on, and the order lists the ids.
-pub record Stands (start : Plan) (limit : ℕ) (plan : Plan) (ranks : List ℕ) (count n : ℕ) : Type 0 where
+-- The search stands at length n: so many lengths were passed over and counted, what is left is the search from here on, and the order lists the ids.
+pub record Stands (start : Plan) (limit : ℕ) (plan : Plan) (ranks : List ℕ) (count n tries : ℕ) : Type 0 where
+  pub within : n ≤ limit
+  pub counted : tries ≡ n
   pub size : length plan.entries ≡ IDS
   pub ready : Ready plan
   pub listing : Listing plan.entries ranks count
   pub rest : search_from limit 0 start ≡ after n (search_from (limit - n) n plan)
 
 pub stands_first : (limit : ℕ) (plan : Plan) (ranks : List ℕ) (count : ℕ) → length plan.entries ≡ IDS → Ready plan → Listing plan.entries ranks count
-    → Stands plan limit plan ranks count 0
-stands_first limit plan ranks count a r l = record { size = a; ready = r; listing = l; rest = rw sub-zero (after_none _) }
+    → Stands plan limit plan ranks count 0 0
+stands_first limit plan ranks count a r l =
+    record { within = omega arith; counted = refl; size = a; ready = r; listing = l; rest = rw sub-zero (after_none _) }
 
-module _ {start : Plan} {limit : ℕ} {plan : Plan} {ranks : List ℕ} {count n : ℕ} (s : Stands start limit plan ranks count n) where
+module _ {start : Plan} {limit : ℕ} {plan : Plan} {ranks : List ℕ} {count n tries : ℕ} (s : Stands start limit plan ranks count n tries) where
   -- The search ends here, with this length counted.
   ends : (e : Ending) (p q : Plan) → search_from (limit - n) n plan ≡ ended e q → q ≡ p
-      → search_from limit 0 start ≡ record { ending = e; tries = n + 1; plan = p }
+      → search_from limit 0 start ≡ record { ending = e; tries = tries + 1; plan = p }
   unfolding after ended
-  ends e p q h k = s.rest ∙ ap (after n) h ∙ ap (λ (x : Plan). record { ending = e; tries = n + 1; plan = x }) k
+  ends e p q h k =
+      s.rest ∙ ap (after n) h ∙ ap₂ (λ (t : ℕ) (x : Plan). record { ending = e; tries = t + 1; plan = x }) (sym s.counted) k
 
   module _ (g : Bool) (next : Plan) (h : (g, next) ≡ settled_of plan (placement plan.entries)) where
     -- This length has a placement, or none.
-    pub stands_found : g ≡ true → search_from limit 0 start ≡ record { ending = Found n; tries = n + 1; plan = next }
+    pub stands_found : g ≡ true → search_from limit 0 start ≡ record { ending = Found n; tries = tries + 1; plan = next }
     stands_found f =
         let w = put_some plan next (placement plan.entries) (ap (λ (x : Bool). (x, next)) (sym f) ∙ h) in
         ends (Found n) next (placed plan w.0) (search_found n plan (limit - n) w.0 w.1) (sym w.2)
@@ -159,30 +164,33 @@ module _ {start : Plan} {limit : ℕ} {plan : Plan} {ranks : List ℕ} {count n 
       pub stands_ranged : entries_in_range next.entries ≡ true
       stands_ranged = ap (λ (x : Plan). entries_in_range x.entries) stuck.1 ∙ s.ready.ranged
 
-      pub stands_exhausted : n ≡ limit → search_from limit 0 start ≡ record { ending = Exhausted n; tries = n + 1; plan = next }
+      pub stands_exhausted : n ≡ limit → search_from limit 0 start ≡ record { ending = Exhausted n; tries = tries + 1; plan = next }
       stands_exhausted e =
           let z : limit - n ≡ 0 = omega arith in
           ends (Exhausted n) next plan (ap (λ (x : ℕ). search_from x n plan) z ∙ search_exhausted n plan stuck.0) (sym stuck.1)
 
-      module _ (l : n < limit) (given : Bool) (then : Plan) (t : (given, then) ≡ next_of next (longer n next)) where
+      module _ (l : n ≢ limit) (given : Bool) (then : Plan) (t : (given, then) ≡ next_of next (longer n next)) where
         -- The lengths that are left.
         left : limit - n ≡ suc (limit - (n + 1))
-        left = omega arith
+        left = omega (arith, s.within)
 
         -- What one more slot gives.
         gives : (given, then) ≡ next_of plan (longer n plan)
         gives = subst (λ (x : Plan). (given, then) ≡ next_of x (longer n x)) stuck.1 t
 
-        pub stands_missed : given ≡ false → search_from limit 0 start ≡ record { ending = Missed n; tries = n + 1; plan = then }
+        pub stands_missed : given ≡ false → search_from limit 0 start ≡ record { ending = Missed n; tries = tries + 1; plan = then }
         stands_missed z =
             let m = given_none plan then (longer n plan) (ap (λ (x : Bool). (x, then)) (sym z) ∙ gives) in
             ends (Missed n) then plan (ap (λ (x : ℕ). search_from x n plan) left ∙ search_missed n plan (limit - (n + 1)) stuck.0 m.0) (sym m.1)
 
-        pub stands_on : given ≡ true → (order : List ℕ) (many : ℕ) → many ≤ IDS → Ranked plan.entries order many → Stands start limit then order many (n + 1)
+        pub stands_on : given ≡ true → (order : List ℕ) (many : ℕ) → many ≤ IDS → Ranked plan.entries order many
+            → Stands start limit then order many (n + 1) (tries + 1)
         stands_on z order many few k =
             let m = given_some plan then (longer n plan) (ap (λ (x : Bool). (x, then)) (sym z) ∙ gives) in
             let q = ready_more n plan then s.size s.ready m in
             record {
+              within = omega (arith, s.within);
+              counted = ap (λ (x : ℕ). x + 1) s.counted;
               size = q.size;
               ready = q.ready;
               listing = listing_same plan.entries then.entries q.periods order many (ranked_listing plan.entries s.ready.ranged order many few k);

@@ -17,28 +17,31 @@ impl Plan {
         ensures { search_from limit 0 self.old ≡ record { ending = result.ending; tries = result.tries; plan = self.new } }
     {
         let mut order = Order::of(&self.entries);
-        for n in 0..limit {
-            if self.place(&mut order) {
-                return SearchEnd {
+        let mut n: u8 = 0;
+        let mut tries: u8 = 0;
+        // No for loop: docs/RULES.md 13.4 has it left by break, with a count of the tries.
+        loop {
+            let found = self.place(&mut order);
+            tries += 1;
+            if found {
+                break SearchEnd {
                     ending: Ending::Found(n),
-                    tries: n + 1,
+                    tries,
+                };
+            }
+            if n == limit {
+                break SearchEnd {
+                    ending: Ending::Exhausted(n),
+                    tries,
                 };
             }
             if !self.longer(n) {
-                return SearchEnd {
+                break SearchEnd {
                     ending: Ending::Missed(n),
-                    tries: n + 1,
+                    tries,
                 };
             }
-        }
-        let ending = if self.place(&mut order) {
-            Ending::Found(limit)
-        } else {
-            Ending::Exhausted(limit)
-        };
-        SearchEnd {
-            ending,
-            tries: limit + 1,
+            n += 1;
         }
     }
 
