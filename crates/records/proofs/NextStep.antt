@@ -2,10 +2,12 @@
 use lib.ListN.{length, set}
 use mathlib.Core.Bool.{Bool, true}
 use mathlib.Core.List.{List}
-use mathlib.Core.Path.{◌≡◌, ap, ◌∙◌, subst}
+use mathlib.Core.Path.{◌≡◌, refl, sym, ap, ◌∙◌, subst}
 use native.Mathlib.Omega.{arith}
 use Prim.Native.Nat.{ℕ, suc, ◌≤◌, ◌<◌}
 use Rattle.std.specs.Prelude.{Ok, Err}
+use Rattle.std.specs.Result.{IfErr}
+use Rattle.std.proofs.lemmas.Result.{IfErr-at_err}
 use Rattle.records.specs.declared.Listed.{Listed}
 use Rattle.records.proofs.FieldLaws.{ListedForm, ListedRead, NumberRead, listed_read, number_read}
 use Rattle.records.proofs.ReadSteps.{ListingRead, listed_range, listing_is, listing_read, number_range}
@@ -18,6 +20,10 @@ use Rattle.slots.specs.Limits.{IDS}
 -- A number that is read is at most the most.
 pub number_most : (s : List ℕ) (at tag size most : ℕ) {n : ℕ} → number_field s at tag size most ≡ Ok n → n ≤ most
 number_most s at tag size most e = (number_range s at tag size most (subst (NumberRead s at tag size most) e (number_read s at tag size most))).0
+
+-- There is one refusal of what is refused.
+pub one_refusal : {A : Type 0} {f : Reading A} {r x : Refusal} → f ≡ Err r → f ≡ Err x → r ≡ x
+one_refusal {r = r} e h = IfErr-at_err (λ y. r ≡ y) h (subst (λ g. IfErr g (λ y. r ≡ y)) (sym e) refl)
 
 -- The listing from a place up to an end, with as many fields allowed as bytes stand before the end.
 unfoldable pub listing_at : List ℕ → ℕ → ℕ → ℕ → List Ask → Reading (List Ask)
@@ -71,6 +77,15 @@ module _ (s : List ℕ) (at floor : ℕ) where
             listing_is s end end (ListingRead.more h p q k (listing_read s end end _ _ _ (omega arith))) (omega arith)
 
 module _ (s : List ℕ) where
+  -- What stands where the field before ends stands where the definition has it: T's field,
+  pub limit_there : (next : ℕ) (f : Reading ℕ) → next ≡ 11 → limit_field s next ≡ f → limit_field s 11 ≡ f
+  limit_there next f p e = ap (limit_field s) (sym p) ∙ e
+
+  -- and the listing.
+  pub listing_there : (next : ℕ) (x : Reading (List Ask)) → next ≡ 15 → x ≡ read_listing (length s) s (length s) next 0 no_asks
+      → x ≡ read_listing (length s) s (length s) 15 0 no_asks
+  listing_there next x p e = e ∙ ap (λ (n : ℕ). read_listing (length s) s (length s) n 0 no_asks) p
+
   -- A request whose first field is refused.
   pub request_no_slot : (r : Refusal) → slot_field s 0 ≡ Err r → read_request s ≡ Err r
   unfolding read_request

@@ -18,6 +18,13 @@ pub struct Ask {
     pub bound: u8,
 }
 
+// What one field holds: a number, and the place of the next field.
+#[derive(Clone, Copy)]
+struct Numbered {
+    number: u64,
+    next: usize,
+}
+
 // What one field lists: an id, what is asked for it, and the place of the next field.
 #[derive(Clone, Copy)]
 pub struct Listed {

@@ -1,10 +1,10 @@
 // Reading a request, left to right. It refuses 3 for a field's form, 4 for a value out of range and 5 for an id that is not above the one before.
-ghost use Rattle.std.specs.Prelude.{length, ◌≡◌, ◌+◌, ◌^◌, ◌≤◌};
+ghost use Rattle.std.specs.Prelude.{length, MatchResult, Ok, Err, ◌≡◌, ◌+◌, ◌^◌, ◌≤◌};
 ghost use Rattle.records.specs.Request.{content_at, is_listing, listed_as, listed_field, no_asks, number_field, read_listing, read_request};
 ghost use Rattle.slots.specs.Limits.{LARGEST_K};
 
 use super::fields::{content_at, is_field, number_at};
-use super::{Ask, Listed, Request};
+use super::{Ask, Listed, Numbered, Request};
 use numbers::Refusal;
 use slots::CoreSlot;
 use timetable::Timetable;
@@ -25,25 +25,32 @@ pub const LIMIT_FIELD: usize = 11;
 pub const LISTING_AT: usize = 15;
 
 // Reads a whole request, or gives the number and the place of the first field that is refused.
+// (Not by `?`: docs/RULES.md 13.4 has let .. else take a field's value and the place of the next, or return number and place.)
 pub fn read_request(s: &[u8]) -> Result<Request, Refusal>
     ensures { result ≡ read_request s.now }
 {
     // Tag 1, length 8: the request slot, at most 2^48 - 1.
-    let slot = number_field(s, 0, SLOT_TAG, 8, Timetable::LAST_SLOT)?;
+    let first = number_field(s, 0, SLOT_TAG, 8, Timetable::LAST_SLOT);
+    let Ok(slot) = first else {
+        return Err(first.unwrap_err());
+    };
     // Tag 2, length 1: T, 0 to 64.
-    let limit = number_field(s, LIMIT_FIELD, LIMIT_TAG, 1, Timetable::LONGEST as u64)?;
-    let asks = read_listing(s)?;
+    let second = number_field(s, slot.next, LIMIT_TAG, 1, Timetable::LONGEST as u64);
+    let Ok(limit) = second else {
+        return Err(second.unwrap_err());
+    };
+    let asks = read_listing(s, limit.next)?;
     Ok(Request {
-        slot: CoreSlot(slot),
-        limit: limit as u8,
+        slot: CoreSlot(slot.number),
+        limit: limit.number as u8,
         asks,
     })
 }
 
 // Reads a field of this tag and length that holds a number, at most `most`.
-fn number_field(s: &[u8], at: usize, tag: u8, size: u8, most: u64) -> Result<u64, Refusal>
+fn number_field(s: &[u8], at: usize, tag: u8, size: u8, most: u64) -> Result<Numbered, Refusal>
     requires { size ≤ 8 }
-    ensures { result ≡ number_field s.now at tag size most }
+    ensures { MatchResult result (λ f. (number_field s.now at tag size most ≡ Ok f.number) × (f.next ≡ at + 3 + size)) (λ r. number_field s.now at tag size most ≡ Err r) }
 {
     if !is_field(s, at, tag, size) {
         return Err(Refusal::of(Refusal::BAD_FIELD, at));
@@ -52,7 +59,8 @@ fn number_field(s: &[u8], at: usize, tag: u8, size: u8, most: u64) -> Result<u64
     if most < number {
         return Err(Refusal::of(Refusal::OUT_OF_RANGE, at));
     }
-    Ok(number)
+    let next = at + 3 + (size as usize);
+    Ok(Numbered { number, next })
 }
 
 // Reads the field of a listed partition, whose id is to be `floor` or above.
@@ -78,16 +86,19 @@ fn listed_field(s: &[u8], at: usize, floor: u8) -> Result<Listed, Refusal>
     listed_as(s, at, floor, 0, at + 5)
 }
 
-// Reads the fields of the listed partitions, up to the record's end.
-fn read_listing(s: &[u8]) -> Result<[Ask; Timetable::IDS], Refusal>
-    ensures { result ≡ read_listing (length s.now) s.now (length s.now) 15 0 no_asks }
+// Reads the fields of the listed partitions from a place up to the record's end.
+fn read_listing(s: &[u8], from: usize) -> Result<[Ask; Timetable::IDS], Refusal>
+    ensures { result ≡ read_listing (length s.now) s.now (length s.now) from 0 no_asks }
 {
     let mut asks = no_asks();
-    let mut at = LISTING_AT;
+    let mut at = from;
     let mut floor: u8 = 0;
     // No for loop: a field has five bytes or six, so each tells the place of the next.
     while at < s.len() {
-        let listed = listed_field(s, at, floor)?;
+        let field = listed_field(s, at, floor);
+        let Ok(listed) = field else {
+            return Err(field.unwrap_err());
+        };
         let id = listed.id;
         asks[id as usize] = listed.ask;
         floor = id + 1;

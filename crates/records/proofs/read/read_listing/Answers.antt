@@ -1,34 +1,32 @@
--- The invariant: the listing from its first field is the listing from `at` on, with ids from `floor` and what was read so far. Assumes nothing.
+-- The invariant: the listing from the place where it begins is the listing from `at` on, with ids from `floor` and what was read so far. Assumes nothing.
 use mathlib.Core.Path.{sym, ◌∙◌}
 use native.Mathlib.Omega.{arith}
 use Rattle.records.proofs.NextStep.{Ahead, listed_ahead, listing_end, listing_floor, listing_step, listing_after, listing_at}
 use Rattle.std.specs.Prelude.{Ok}
-use Rattle.std.proofs.lemmas.Result.{err_from_is_err_and}
 use Rattle.records.proofs.read.read_listing.Goals as goal
 
-pub returns-in_err-listed : goal.returns-in_err-listed
+pub returns-in_default : goal.returns-in_default
 unfolding listing_at listing_after
-returns-in_err-listed c =
+returns-in_default c =
     let l = c.loop-at in
-    let p = err_from_is_err_and c.from_residual.result c.from_residual.ensures.1 in
-    rw (p.1, p.2) (sym (l.invariant ∙ listing_step _ _ _ _ l.asks c.loop-at-test.true _ (sym c.listed_field.ensures ∙ c.in_err-listed.was)))
+    sym (l.invariant ∙ listing_step _ _ _ _ l.asks c.loop-at-test.true _ (sym c.listed_field-field.ensures ∙ c.unwrap_err.ensures))
 
 pub bounds-asks-id : goal.bounds-asks-id
 unfolding Ahead
 bounds-asks-id c =
-    let ahead : Ahead c.loop-at.at (Ok c.in_ok-listed.listed) = listed_ahead _ _ _ _ (sym c.listed_field.ensures ∙ c.in_ok-listed.was) in
+    let ahead : Ahead c.loop-at.at (Ok c.in-Ok.listed) = listed_ahead _ _ _ _ (sym c.listed_field-field.ensures ∙ c.in-Ok.is) in
     ahead.0
 
 pub overflow_add-floor : goal.overflow_add-floor
 unfolding Ahead
 overflow_add-floor c =
-    let ahead : Ahead c.loop-at.at (Ok c.in_ok-listed.listed) = listed_ahead _ _ _ _ (sym c.listed_field.ensures ∙ c.in_ok-listed.was) in
+    let ahead : Ahead c.loop-at.at (Ok c.in-Ok.listed) = listed_ahead _ _ _ _ (sym c.listed_field-field.ensures ∙ c.in-Ok.is) in
     omega (arith, ahead.0)
 
 pub loop-at-smaller : goal.loop-at-smaller
 unfolding Ahead
 loop-at-smaller c =
-    let ahead : Ahead c.loop-at.at (Ok c.in_ok-listed.listed) = listed_ahead _ _ _ _ (sym c.listed_field.ensures ∙ c.in_ok-listed.was) in
+    let ahead : Ahead c.loop-at.at (Ok c.in-Ok.listed) = listed_ahead _ _ _ _ (sym c.listed_field-field.ensures ∙ c.in-Ok.is) in
     omega (arith, ahead.1)
 
 pub loop-at-preserved : goal.loop-at-preserved
@@ -37,7 +35,7 @@ loop-at-preserved c =
     let l = c.loop-at in
     l.invariant
     ∙ listing_step _ _ _ _ l.asks c.loop-at-test.true _
-    (sym c.listed_field.ensures ∙ c.in_ok-listed.was)
+    (sym c.listed_field-field.ensures ∙ c.in-Ok.is)
     ∙ listing_floor _ _ _ _ _ _ (omega arith)
 
 pub returns : goal.returns
