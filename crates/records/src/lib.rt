@@ -21,7 +21,7 @@ pub struct Ask {
 // What one field holds: a number, and the place of the next field.
 #[derive(Clone, Copy)]
 struct Numbered {
-    number: u64,
+    value: u64,
     next: usize,
 }
 

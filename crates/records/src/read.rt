@@ -31,18 +31,18 @@ pub fn read_request(s: &[u8]) -> Result<Request, Refusal>
 {
     // Tag 1, length 8: the request slot, at most 2^48 - 1.
     let first = number_field(s, 0, SLOT_TAG, 8, Timetable::LAST_SLOT);
-    let Ok(slot) = first else {
+    let Ok(Numbered { value: slot, next }) = first else {
         return Err(first.unwrap_err());
     };
     // Tag 2, length 1: T, 0 to 64.
-    let second = number_field(s, slot.next, LIMIT_TAG, 1, Timetable::LONGEST as u64);
-    let Ok(limit) = second else {
+    let second = number_field(s, next, LIMIT_TAG, 1, Timetable::LONGEST as u64);
+    let Ok(Numbered { value: limit, next }) = second else {
         return Err(second.unwrap_err());
     };
-    let asks = read_listing(s, limit.next)?;
+    let asks = read_listing(s, next)?;
     Ok(Request {
-        slot: CoreSlot(slot.number),
-        limit: limit.number as u8,
+        slot: CoreSlot(slot),
+        limit: limit as u8,
         asks,
     })
 }
@@ -50,7 +50,7 @@ pub fn read_request(s: &[u8]) -> Result<Request, Refusal>
 // Reads a field of this tag and length that holds a number, at most `most`.
 fn number_field(s: &[u8], at: usize, tag: u8, size: u8, most: u64) -> Result<Numbered, Refusal>
     requires { size ≤ 8 }
-    ensures { MatchResult result (λ f. (number_field s.now at tag size most ≡ Ok f.number) × (f.next ≡ at + 3 + size)) (λ r. number_field s.now at tag size most ≡ Err r) }
+    ensures { MatchResult result (λ f. (number_field s.now at tag size most ≡ Ok f.value) × (f.next ≡ at + 3 + size)) (λ r. number_field s.now at tag size most ≡ Err r) }
 {
     if !is_field(s, at, tag, size) {
         return Err(Refusal::of(Refusal::BAD_FIELD, at));
@@ -60,7 +60,10 @@ fn number_field(s: &[u8], at: usize, tag: u8, size: u8, most: u64) -> Result<Num
         return Err(Refusal::of(Refusal::OUT_OF_RANGE, at));
     }
     let next = at + 3 + (size as usize);
-    Ok(Numbered { number, next })
+    Ok(Numbered {
+        value: number,
+        next,
+    })
 }
 
 // Reads the field of a listed partition, whose id is to be `floor` or above.
@@ -96,13 +99,12 @@ fn read_listing(s: &[u8], from: usize) -> Result<[Ask; Timetable::IDS], Refusal>
     // No for loop: a field has five bytes or six, so each tells the place of the next.
     while at < s.len() {
         let field = listed_field(s, at, floor);
-        let Ok(listed) = field else {
+        let Ok(Listed { id, ask, next }) = field else {
             return Err(field.unwrap_err());
         };
-        let id = listed.id;
-        asks[id as usize] = listed.ask;
+        asks[id as usize] = ask;
         floor = id + 1;
-        at = listed.next;
+        at = next;
     }
     Ok(asks)
 }

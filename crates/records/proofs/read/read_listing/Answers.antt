@@ -14,19 +14,19 @@ returns-in_default c =
 pub bounds-asks-id : goal.bounds-asks-id
 unfolding Ahead
 bounds-asks-id c =
-    let ahead : Ahead c.loop-at.at (Ok c.in-Ok.listed) = listed_ahead _ _ _ _ (sym c.listed_field-field.ensures ∙ c.in-Ok.is) in
+    let ahead : Ahead c.loop-at.at (Ok c.in-Ok.field-0) = listed_ahead _ _ _ _ (sym c.listed_field-field.ensures ∙ c.in-Ok.is) in
     ahead.0
 
 pub overflow_add-floor : goal.overflow_add-floor
 unfolding Ahead
 overflow_add-floor c =
-    let ahead : Ahead c.loop-at.at (Ok c.in-Ok.listed) = listed_ahead _ _ _ _ (sym c.listed_field-field.ensures ∙ c.in-Ok.is) in
+    let ahead : Ahead c.loop-at.at (Ok c.in-Ok.field-0) = listed_ahead _ _ _ _ (sym c.listed_field-field.ensures ∙ c.in-Ok.is) in
     omega (arith, ahead.0)
 
 pub loop-at-smaller : goal.loop-at-smaller
 unfolding Ahead
 loop-at-smaller c =
-    let ahead : Ahead c.loop-at.at (Ok c.in-Ok.listed) = listed_ahead _ _ _ _ (sym c.listed_field-field.ensures ∙ c.in-Ok.is) in
+    let ahead : Ahead c.loop-at.at (Ok c.in-Ok.field-0) = listed_ahead _ _ _ _ (sym c.listed_field-field.ensures ∙ c.in-Ok.is) in
     omega (arith, ahead.1)
 
 pub loop-at-preserved : goal.loop-at-preserved

@@ -22,8 +22,8 @@ pub returns-in_err-asks : goal.returns-in_err-asks
 unfolding with_listing
 returns-in_err-asks c =
     let p = err_from_is_err_and c.from_residual.result c.from_residual.ensures.1 in
-    let limit : limit_field c.args.s.now 11 ≡ Ok c.in-Ok-second.limit.number = limit_there _ _ _ c.in-Ok.ensures.1 c.in-Ok-second.ensures.0 in
-    let listing = listing_there _ c.in-Ok-second.limit.next _ (omega (arith, c.in-Ok.ensures.1, c.in-Ok-second.ensures.1)) c.read_listing.ensures in
+    let limit : limit_field c.args.s.now 11 ≡ Ok c.in-Ok-second.field-0.value = limit_there _ _ _ c.in-Ok.ensures.1 c.in-Ok-second.ensures.0 in
+    let listing = listing_there _ c.in-Ok-second.field-0.next _ (omega (arith, c.in-Ok.ensures.1, c.in-Ok-second.ensures.1)) c.read_listing.ensures in
     rw (p.1, p.2)
     (sym (request_listing _ _ c.in-Ok.ensures.0 _ limit ∙ ap (with_listing _ _) (sym listing ∙ c.in_err-asks.was)))
 
@@ -34,6 +34,6 @@ overflow_cast-result c =
 pub returns : goal.returns
 unfolding with_listing
 returns c =
-    let limit : limit_field c.args.s.now 11 ≡ Ok c.in-Ok-second.limit.number = limit_there _ _ _ c.in-Ok.ensures.1 c.in-Ok-second.ensures.0 in
-    let listing = listing_there _ c.in-Ok-second.limit.next _ (omega (arith, c.in-Ok.ensures.1, c.in-Ok-second.ensures.1)) c.read_listing.ensures in
+    let limit : limit_field c.args.s.now 11 ≡ Ok c.in-Ok-second.field-0.value = limit_there _ _ _ c.in-Ok.ensures.1 c.in-Ok-second.ensures.0 in
+    let listing = listing_there _ c.in-Ok-second.field-0.next _ (omega (arith, c.in-Ok.ensures.1, c.in-Ok-second.ensures.1)) c.read_listing.ensures in
     sym (request_listing _ _ c.in-Ok.ensures.0 _ limit ∙ ap (with_listing _ _) (sym listing ∙ c.in_ok-asks.was))
