@@ -1,14 +1,17 @@
 -- What the table of taken slots says once the slots of an offset are marked, word after word, and what the search of it for a free slot finds.
 -- Assumes nothing.
-use borrow.Author.Tests.{le-leb, lt-leb, not-false, not-true}
+use borrow.Author.Tests.{le-leb, lt-leb, ne_eqb, not-false, not-true}
+use lib.Bits.{bit_or}
 use lib.Count.{count_leading_zeros}
-use lib.Dec.{eqb}
+use lib.Dec.{eqb, leb}
 use lib.ListN.{get_or}
-use mathlib.Core.Bool.{Bool, true, false, ◌||◌}
+use lib.Pow.{pow_mono}
+use mathlib.Core.Bool.{Bool, true, false, ◌&&◌, ◌||◌, or-false}
 use mathlib.Core.List.{List}
-use mathlib.Core.Path.{◌≡◌, refl, sym, ap, ◌∙◌, subst}
-use native.Mathlib.Decide.{dec_le}
-use native.Mathlib.Nat.{add-suc, add-zero}
+use mathlib.Core.Logic.{◌⊎◌, inl, inr}
+use mathlib.Core.Path.{◌≡◌, refl, sym, ap, ap₂, ◌∙◌, subst}
+use native.Mathlib.Decide.{dec_le, dec_lt}
+use native.Mathlib.Nat.{add-suc, add-zero, div-add-mod', mod-eq_of_lt, mod-le, mod-lt, mul-add-mod_self_right, mul_assoc, mul_comm, pow-suc, suc-mul}
 use native.Mathlib.Numerals.{add-one}
 use native.Mathlib.Omega.{arith}
 use Prim.Native.Nat.{ℕ, zero, suc, ◌+◌, ◌-◌, ◌*◌, ◌/◌, ◌%◌, ◌^◌, ◌≤◌, ◌<◌}
@@ -17,9 +20,10 @@ use Rattle.placement.specs.Placed.{Says, last_clear, Finds, TakenToo}
 use Rattle.placement.specs.Placement.{Place, is_taken}
 use Rattle.slots.proofs.Below.{true_false}
 use Rattle.slots.specs.Limits.{WHOLE}
-use Rattle.timetable.proofs.Bits.{Highest, highest, set_none, set_not, set_shift}
+use Rattle.timetable.proofs.Bits.{Highest, highest, set_none, set_not, set_one, set_or, set_shift}
 use Rattle.timetable.proofs.Marks.{Marked}
-use Rattle.timetable.specs.Marks.{WORD, WORDS, Marks, is_marked, is_set, FreeUpTo}
+use Rattle.timetable.proofs.Ranges.{Period}
+use Rattle.timetable.specs.Marks.{WORD, WORDS, Marks, is_marked, is_set, AreSlots, FreeUpTo}
 
 -- ---- the highest free slot of a word
 
@@ -146,6 +150,103 @@ pub clear_below : (ps : List Place) (n o : ℕ) → last_clear ps n ≡ Some o �
 clear_below ps n o e = subst (Within n) e (within ps n)
 
 -- ---- the marks
+
+-- A number in whole parts of p, and what is left of it.
+left_of : (n p q x : ℕ) → n ≡ q * p + x → x < p → n % p ≡ x
+left_of n p q x e l = ap (λ (y : ℕ). y % p) e ∙ mul-add-mod_self_right q p x ∙ mod-eq_of_lt l
+
+-- The slots of half a period are those of the period and, half of it on, as many again.
+module _ (half o n : ℕ) (l : o < half) where
+  again : (q m : ℕ) → n ≡ q * (half * 2) + m → m < half → leb half n && eqb ((n - half) % (half * 2)) o ≡ false
+  again zero m e d = rw (lt-leb half n (omega arith)) refl
+  again (suc q) m e d =
+      let f : n ≡ q * (half * 2) + half * 2 + m = e ∙ ap (λ (x : ℕ). x + m) (suc-mul q (half * 2)) in
+      let r : (n - half) % (half * 2) ≡ half + m = left_of (n - half) (half * 2) q (half + m) (omega arith) (omega arith) in
+      rw (r, le-leb half n (omega arith)) (ne_eqb (half + m) o (λ h. omega arith))
+
+  half_slots : eqb (n % (half * 2)) o || (leb half n && eqb ((n - half) % (half * 2)) o) ≡ eqb (n % half) o
+  half_slots = at (n / (half * 2)) (n % (half * 2)) (sym (div-add-mod' n (half * 2))) (mod-lt n {m = half * 2} (omega arith)) (dec_lt (n % (half * 2)) half)
+    where
+      at : (q m : ℕ) → n ≡ q * (half * 2) + m → m < half * 2 → Dec (m < half) → eqb (n % (half * 2)) o || (leb half n && eqb ((n - half) % (half * 2)) o) ≡ eqb (n % half) o
+      at q m e k d = by d
+        where
+          twice : q * 2 * half ≡ q * (half * 2)
+          twice = mul_assoc q 2 half ∙ ap (λ (x : ℕ). q * x) (mul_comm 2 half)
+
+          whole : n % (half * 2) ≡ m
+          whole = left_of n (half * 2) q m e k
+
+          by : Dec (m < half) → eqb (n % (half * 2)) o || (leb half n && eqb ((n - half) % (half * 2)) o) ≡ eqb (n % half) o
+          by (yes h) =
+              let r : n % half ≡ m = left_of n half (q * 2) m (omega (arith, twice)) h in
+              rw (again q m e h, whole, r) (or-false (eqb m o))
+          by (no h) =
+              let f : suc (q * 2) * half ≡ q * 2 * half + half = suc-mul (q * 2) half in
+              let r : n % half ≡ m - half = left_of n half (suc (q * 2)) (m - half) (omega (arith, twice)) (omega arith) in
+              let s : (n - half) % (half * 2) ≡ m - half = left_of (n - half) (half * 2) q (m - half) (omega arith) (omega arith) in
+              rw (whole, r, s, le-leb half n (omega arith), ne_eqb m o (λ g. omega arith)) refl
+
+-- The bits are those of the slots that stand so far apart, from the offset on: a word, or half as far and so on down to the period.
+pub record Halved (period offset slots apart : ℕ) : Type 0 where
+  pub power : ℕ
+  pub small : power ≤ 6
+  pub far : apart ≡ 2 ^ power
+  pub enough : (apart ≡ WORD) ⊎ (period ≤ apart)
+  pub bit : (n : ℕ) → n < WORD → is_set slots n ≡ eqb (n % apart) (offset % WORD)
+
+module _ (period offset : ℕ) (range : Period period) (inside : offset < period) where
+  -- A word apart there is one,
+  pub halved_none : Halved period offset (1 * 2 ^ (offset % WORD) % 2 ^ WORD) WORD
+  halved_none = record {
+    power = 6;
+    small = omega arith;
+    far = refl;
+    enough = inl refl;
+    bit = λ n k. set_one WORD (offset % WORD) n k ∙ ap (λ (x : ℕ). eqb x (offset % WORD)) (sym (mod-eq_of_lt k));
+  }
+
+  -- half as far apart there are twice as many,
+  pub halved_more : (slots apart : ℕ) → period < apart → Halved period offset slots apart → Halved period offset (bit_or slots (slots * 2 ^ (apart / 2) % 2 ^ WORD)) (apart / 2)
+  halved_more slots apart l h = record {
+    power = h.power - 1;
+    small = omega (arith, h.small);
+    far = half;
+    enough = inr small;
+    bit = λ n k.
+        set_or slots (slots * 2 ^ (apart / 2) % 2 ^ WORD) n
+        ∙ ap₂ ◌||◌ (h.bit n k ∙ at n) (set_shift WORD slots (apart / 2) n k ∙ ap (λ (b : Bool). leb (apart / 2) n && b) (h.bit (n - apart / 2) (omega arith) ∙ at (n - apart / 2)))
+        ∙ half_slots (apart / 2) (offset % WORD) n (omega (arith, small, mod-le offset WORD));
+  }
+    where
+      above : range.k < h.power
+      above = at (dec_le h.power range.k)
+        where
+          at : Dec (h.power ≤ range.k) → range.k < h.power
+          at (yes k) = absurd (omega (arith, l, h.far, range.power, pow_mono k))
+          at (no k) = omega arith
+
+      twice : apart ≡ 2 ^ (h.power - 1) * 2
+      twice = let e : h.power ≡ suc (h.power - 1) = omega (arith, above) in h.far ∙ ap (λ (x : ℕ). 2 ^ x) e ∙ pow-suc 2 (h.power - 1)
+
+      half : apart / 2 ≡ 2 ^ (h.power - 1)
+      half = omega (arith, twice)
+
+      small : period ≤ apart / 2
+      small = omega (arith, half, range.power, pow_mono {i = range.k} {j = h.power - 1} (omega (arith, above)))
+
+      at : (n : ℕ) → eqb (n % apart) (offset % WORD) ≡ eqb (n % (apart / 2 * 2)) (offset % WORD)
+      at n = let e : apart ≡ apart / 2 * 2 = omega (arith, twice) in ap (λ (x : ℕ). eqb (n % x) (offset % WORD)) e
+
+  -- and a period apart, or in a longer period, they are all.
+  pub halved_all : (slots apart : ℕ) → apart ≤ period → Halved period offset slots apart → AreSlots period offset slots
+  halved_all slots apart l h n k = h.bit n k ∙ ap (λ (x : ℕ). eqb x (offset % WORD)) (at h.enough)
+    where
+      at : (apart ≡ WORD) ⊎ (period ≤ apart) → n % apart ≡ n % period
+      at (inl e) =
+          let a : n < apart = omega (arith, e) in
+          let b : n < period = omega (arith, e) in
+          mod-eq_of_lt a ∙ sym (mod-eq_of_lt b)
+      at (inr m) = let e : apart ≡ period = omega arith in ap (λ (x : ℕ). n % x) e
 
 -- Past the last word the table says what the places and one more say.
 pub marked_all : (before : Marks) (period offset : ℕ) (after : Marks) (word : ℕ) → WORDS ≤ word → Marked before period offset after word → TakenToo before period offset after

@@ -2,15 +2,21 @@
 ghost use Rattle.std.specs.Prelude.{true, [], ◌≡◌, ℕ, ◌<◌, ◌≤◌};
 ghost use Rattle.placement.specs.Placed.{Says, Finds, TakenToo};
 ghost use Rattle.slots.specs.Limits.{WHOLE};
-ghost use Rattle.timetable.specs.Marks.{WORD, FreeUpTo};
+ghost use Rattle.timetable.specs.Marks.{WORD, AreSlots, FreeUpTo};
 ghost use Rattle.timetable.specs.Sound.{is_period};
 
-use timetable::slot_bits::{SlotBits, WORD, WORDS, slots_in_word, stride};
+use timetable::Timetable;
 
-// Which slots of the cycle are taken.
+// A word marks this many slots.
+const WORD: usize = 64;
+
+// This many words mark the slots of one cycle.
+const WORDS: usize = Timetable::WHOLE as usize / WORD;
+
+// Which slots of the cycle are taken: slot n is bit n % 64 of word n / 64.
 #[derive(Clone, Copy)]
 pub struct Taken {
-    pub bits: SlotBits,
+    pub bits: [u64; WORDS],
 }
 
 impl Taken {
@@ -59,7 +65,7 @@ impl Taken {
         ensures { TakenToo self.old.bits period offset self.new.bits }
     {
         let slots = slots_in_word(period, offset);
-        let stride = stride(period);
+        let stride = (period + (WORD - 1)) / WORD;
         let mut word = offset / WORD;
         while word < WORDS {
             self.bits[word] |= slots;
@@ -74,4 +80,19 @@ fn free_up_to(marks: u64, top: usize) -> u64
     ensures { FreeUpTo marks top result }
 {
     !marks << (WORD - 1 - top)
+}
+
+// The slots of the offset in a word that has any of them: one for a period from 64 on, and with each halving of the period as many again, half as far apart.
+// (A `for` is no plainer: how far apart the slots stand halves, and is what the loop tests.)
+fn slots_in_word(period: usize, offset: usize) -> u64
+    requires { (is_period period ≡ true) × (offset < period) }
+    ensures { AreSlots period offset result }
+{
+    let mut slots = 1 << (offset % WORD);
+    let mut apart = WORD;
+    while period < apart {
+        apart /= 2;
+        slots |= slots << apart;
+    }
+    slots
 }

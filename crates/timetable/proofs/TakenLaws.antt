@@ -16,11 +16,11 @@ use Rattle.slots.specs.Below.{every}
 use Rattle.slots.specs.Limits.{WHOLE}
 use Rattle.timetable.proofs.EntryLaws.{cyclic_none, cyclic_test}
 use Rattle.timetable.proofs.Bits.{set_one, set_or, set_shift}
-use Rattle.timetable.proofs.Marks.{Marked, marked_more, marked_none, none_before, none_between, none_marked, shares_none, shares_some, slots_here}
+use Rattle.timetable.proofs.Marks.{Marked, marked_more, marked_none, none_before, none_between, none_marked, shares_none, shares_some, slots_here, stride}
 use Rattle.timetable.proofs.Ranges.{Period}
 use Rattle.timetable.proofs.Sound.{cyclic_listed}
 use Rattle.timetable.specs.declared.Entry.{Entry}
-use Rattle.timetable.specs.Marks.{stride, WORD, WORDS, Marks, OfCycle, is_marked, is_set, no_marks, with_bits, AreSlots}
+use Rattle.timetable.specs.Marks.{WORD, WORDS, Marks, OfCycle, is_marked, is_set, no_marks, with_bits, AreSlots}
 use Rattle.timetable.specs.Sound.{share_none}
 use Rattle.timetable.specs.Taken.{Takes, are_free}
 use Rattle.timetable.specs.Timetable.{cyclic, entry_of, is_listed}
@@ -90,6 +90,10 @@ module _ (period offset : ℕ) (inside : offset < period) where
           let t : ltb (n - reach) reach ≡ ltb n (reach * 2) =
           same _ _ (λ x. lt-ltb n (reach * 2) (omega (arith, ltb-true (n - reach) reach x))) (λ x. lt-ltb (n - reach) reach (omega (arith, ltb-true n (reach * 2) x))) in
           rw (le-ltb n reach h, le-leb reach n h, r.bit (n - reach) (omega arith), m, t) refl
+
+  -- and past the word's end they are all.
+  pub reaches_all : (bits reach : ℕ) → WORD ≤ reach → Reaches period offset bits reach → AreSlots period offset bits
+  reaches_all bits reach l r n k = r.bit n k ∙ ap (λ (b : Bool). b && eqb (n % period) (offset % WORD)) (lt-ltb n reach (omega arith))
 
 -- ---- the slots of an entry, word by word
 

@@ -1,17 +1,22 @@
 // Whether a timetable is sound, clause by clause, whatever its fields hold. Nothing here is refused.
-ghost use Rattle.std.specs.Prelude.{eqb, leb, get_or, length as length_of, true, false, cond, MatchOption, ◌&&◌, ◌≡◌, ◌+◌, ◌*◌, ◌≤◌};
+ghost use Rattle.std.specs.Prelude.{eqb, leb, get_or, length as length_of, true, false, cond, MatchOption, ◌&&◌, ◌≡◌, ◌+◌, ◌*◌, ◌≤◌, ◌<◌};
 ghost use Rattle.slots.specs.Below.{every};
 ghost use Rattle.slots.specs.Limits.{IDS, LAST_SLOT, LONGEST};
 ghost use Rattle.slots.specs.Shortfall.{keeps};
-ghost use Rattle.timetable.specs.Marks.{OfCycle};
+ghost use Rattle.timetable.specs.Marks.{OfCycle, AreSlots};
 ghost use Rattle.timetable.specs.Sound.{is_period, is_bound, entry_in_range, entry_absent, start_in_range, is_sound};
 ghost use Rattle.timetable.specs.Taken.{Takes};
 ghost use Rattle.timetable.specs.Timetable.{entry_of, is_listed, weight};
 ghost use Rattle.timetable.specs.Walk.{Fit, weighs, Walkable, Walked};
 
 use crate::figures::{after_own, weight_of};
-use crate::slot_bits::{SlotBits, WORD, WORDS, slots_in_word, stride};
 use crate::{Entry, SoundTimetable, Timetable};
+
+// A word marks this many slots, one bit each: slot n is bit n % 64 of word n / 64.
+const WORD: usize = 64;
+
+// This many words mark the slots of one cycle.
+const WORDS: usize = Timetable::WHOLE as usize / WORD;
 
 impl Timetable {
     // The timetable as one that is known to be sound, if it is.
@@ -202,7 +207,7 @@ impl Entry {
 }
 
 // An entry takes its slots of one cycle, if none of them is taken: those of a word at once.
-fn take_slots(taken: &mut SlotBits, e: Entry) -> bool
+fn take_slots(taken: &mut [u64; WORDS], e: Entry) -> bool
     requires of_cycle { OfCycle taken.old }
     requires e_value { is_listed e ≡ true → entry_in_range e ≡ true }
     ensures { Takes taken.old e result taken.new }
@@ -213,13 +218,29 @@ fn take_slots(taken: &mut SlotBits, e: Entry) -> bool
     let period = e.period as usize;
     let offset = e.offset as usize;
     let slots = slots_in_word(period, offset);
-    for word in (offset / WORD..WORDS).step_by(stride(period)) {
+    let stride = (period + (WORD - 1)) / WORD;
+    for word in (offset / WORD..WORDS).step_by(stride) {
         if taken[word] & slots != 0 {
             return false;
         }
         taken[word] |= slots;
     }
     true
+}
+
+// The slots of an offset in a word that has any of them: the first, and then twice as many, which reach twice as far, up to the word's end.
+// (A `for` is no plainer: how far the slots reach doubles, and is what the loop tests.)
+fn slots_in_word(period: usize, offset: usize) -> u64
+    requires { offset < period }
+    ensures { AreSlots period offset result }
+{
+    let mut slots = 1 << (offset % WORD);
+    let mut reach = period;
+    while reach < WORD {
+        slots |= slots << reach;
+        reach *= 2;
+    }
+    slots
 }
 
 // A period is a power of two from 1 to 256.

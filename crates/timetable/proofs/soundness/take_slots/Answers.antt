@@ -1,9 +1,10 @@
 -- `take_slots` takes the entry's slots word by word, or stops at one that is taken. Assumes nothing.
 use Rattle.std.proofs.Common.{Bool, true, ℕ, get_or, set, bit_and, bit_or, rules, arith, ltb-false, sym, ◌≡◌, ◌∙◌, ◌+◌, ◌<◌}
-use Rattle.timetable.proofs.Ranges.{InRange, in_range_from, period_le}
+use Rattle.timetable.proofs.Marks.{stride}
+use Rattle.timetable.proofs.Ranges.{InRange, in_range_from}
 use Rattle.timetable.proofs.TakenLaws.{Taking, takes_none, taking_none, taking_more, taking_stops, taking_all}
 use Rattle.timetable.specs.declared.Entry.{Entry}
-use Rattle.timetable.specs.Marks.{Marks, WORDS, AreSlots, stride, with_bits}
+use Rattle.timetable.specs.Marks.{Marks, WORDS, AreSlots, with_bits}
 use Rattle.timetable.specs.Sound.{entry_in_range}
 use Rattle.timetable.specs.Timetable.{is_listed}
 use Rattle.timetable.proofs.soundness.take_slots.Goals as goal
@@ -20,10 +21,6 @@ returns-then-not-is_listed c =
 pub slots_in_word-slots-requires : goal.slots_in_word-slots-requires
 slots_in_word-slots-requires c = (own c.args.e c.is_listed.result c.is_listed.ensures c.if-not-is_listed.false c.requires.e_value).inside
 
-pub stride-word-step-requires : goal.stride-word-step-requires
-stride-word-step-requires c =
-    period_le c.args.e.period (own c.args.e c.is_listed.result c.is_listed.ensures c.if-not-is_listed.false c.requires.e_value).period
-
 pub loop-word-init : goal.loop-word-init
 loop-word-init c =
     let range = own c.args.e c.is_listed.result c.is_listed.ensures c.if-not-is_listed.false c.requires.e_value in
@@ -38,18 +35,18 @@ returns-then-taken-word-ne0 c =
     taking_stops a.taken.now a.e range.period range.inside w.result w.ensures c.loop-word.taken c.loop-word.word c.loop-word-test.true c.loop-word.invariant (omega (arith, c.if-taken-word-ne0.true)) (search rules)
 
 -- One word more is taken.
-taken_more : (before : Marks) (e : Entry) (range : InRange e) (bits : ℕ) → AreSlots e.period e.offset bits → (after : Marks) (word step : ℕ) → step ≡ stride e.period
+taken_more : (before : Marks) (e : Entry) (range : InRange e) (bits : ℕ) → AreSlots e.period e.offset bits → (after : Marks) (word : ℕ)
     → word < WORDS → Taking before e.period e.offset after word → bit_and (get_or after word 0) bits ≡ 0
-    → Taking before e.period e.offset (set after word (bit_or (get_or after word 0) bits)) (word + step)
+    → Taking before e.period e.offset (set after word (bit_or (get_or after word 0) bits)) (word + stride e.period)
 unfolding with_bits
-taken_more before e range bits slots after word step s l t z = rw s (taking_more before e range.period range.inside bits slots after word l t z)
+taken_more before e range bits slots after word l t z = taking_more before e range.period range.inside bits slots after word l t z
 
 pub loop-word-preserved : goal.loop-word-preserved
 loop-word-preserved c =
     let range = own c.args.e c.is_listed.result c.is_listed.ensures c.if-not-is_listed.false c.requires.e_value in
     let w = c.slots_in_word-slots in
     let l = c.loop-word in
-    taken_more c.args.taken.now c.args.e range w.result w.ensures l.taken l.word c.stride-word-step.result c.stride-word-step.ensures c.loop-word-test.true l.invariant c.if-taken-word-ne0.false
+    taken_more c.args.taken.now c.args.e range w.result w.ensures l.taken l.word c.loop-word-test.true l.invariant c.if-taken-word-ne0.false
 
 pub returns-else-not-is_listed : goal.returns-else-not-is_listed
 returns-else-not-is_listed c =
@@ -62,5 +59,5 @@ returns-else-taken-word-ne0 c =
     let range = own c.args.e c.is_listed.result c.is_listed.ensures c.if-not-is_listed.false c.requires.e_value in
     let w = c.slots_in_word-slots in
     let l = c.loop-word in
-    let more = taken_more c.args.taken.now c.args.e range w.result w.ensures l.taken l.word c.stride-word-step.result c.stride-word-step.ensures c.loop-word-test.true l.invariant c.if-taken-word-ne0.false in
-    taking_all c.args.taken.now c.args.e range.period range.inside _ (l.word + c.stride-word-step.result) (omega arith) c.requires.of_cycle more
+    let more = taken_more c.args.taken.now c.args.e range w.result w.ensures l.taken l.word c.loop-word-test.true l.invariant c.if-taken-word-ne0.false in
+    taking_all c.args.taken.now c.args.e range.period range.inside _ (l.word + stride c.args.e.period) (omega arith) c.requires.of_cycle more

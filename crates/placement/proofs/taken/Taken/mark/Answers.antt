@@ -6,11 +6,11 @@ use Rattle.timetable.proofs.Ranges.{Period, period_from, period_le}
 use Rattle.timetable.specs.Marks.{with_bits}
 use Rattle.placement.proofs.taken.Taken.mark.Goals as goal
 
-pub stride-stride-requires : goal.stride-stride-requires
-stride-stride-requires c =
+pub overflow_add-stride : goal.overflow_add-stride
+overflow_add-stride c =
     let range : Period c.args.period =
     period_from c.args.period c.requires.0 in
-    omega (arith, period_le _ range)
+    record { fits = omega (arith, period_le _ range) }
 
 pub loop-word-preserved : goal.loop-word-preserved
 unfolding with_bits
@@ -19,8 +19,7 @@ loop-word-preserved c =
     period_from c.args.period c.requires.0 in
     let l = c.loop-word in
     let w = c.slots_in_word-slots in
-    rw c.stride-stride.ensures
-    (marked_more c.args.self.now.bits c.args.period c.args.offset range c.requires.1 w.result w.ensures l.self.bits l.word (omega (arith, c.loop-word-test.true)) l.invariant)
+    marked_more c.args.self.now.bits c.args.period c.args.offset range c.requires.1 w.result w.ensures l.self.bits l.word (omega (arith, c.loop-word-test.true)) l.invariant
 
 pub returns : goal.returns
 returns c =

@@ -2,7 +2,7 @@
 use Prim.Native.Nat.{◌-◌}
 use Rattle.timetable.proofs.TakenLaws.{Reaches}
 use Rattle.timetable.specs.Marks.{WORD}
-use Rattle.timetable.proofs.slot_bits.slots_in_word.Given as goal
+use Rattle.timetable.proofs.soundness.slots_in_word.Given as goal
 
 abbrev pub invariant-loop-reach : goal.invariant-loop-reach
 invariant-loop-reach l = Reaches l.period l.offset l.slots l.reach
