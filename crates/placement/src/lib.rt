@@ -7,7 +7,7 @@ ghost use Rattle.placement.specs.Placed.{demands_of, placed_of, InOrderOfSome};
 use taken::Taken;
 use timetable::Timetable;
 
-mod ranks; // ranks.rt: the demands of the listed partitions, in order
+pub mod ranks; // ranks.rt: the demands of the listed partitions, in order
 mod taken; // taken.rt: the slots that are taken
 
 pub use ranks::Order;
