@@ -11,4 +11,5 @@ pub mod Ranking
 pub mod Inserting
 pub mod Asked
 pub mod Sorting
+pub mod Unplaced
 pub mod Placing

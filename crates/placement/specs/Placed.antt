@@ -6,7 +6,7 @@ use Rattle.slots.specs.Limits.{IDS, WHOLE}
 use Rattle.timetable.specs.declared.Entry.{Entry}
 use Rattle.timetable.specs.Marks.{Marks, OfCycle, is_marked}
 use Rattle.timetable.specs.Sound.{entries_in_range}
-use Rattle.timetable.specs.Timetable.{entry_of}
+use Rattle.timetable.specs.Timetable.{each, entry_of, with_offset}
 
 -- The offsets of the places, by id.
 unfoldable pub offsets_of : List Place → List ℕ
@@ -29,6 +29,10 @@ demand_at rank = record { id = rank % IDS; period = rank / (IDS * WHOLE); last =
 -- The demands of the first n ranks.
 abbrev pub demands_of : List ℕ → ℕ → List Demand
 demands_of ranks n = map demand_at (take n ranks)
+
+-- The entries of which none is placed yet: every offset 0.
+abbrev pub unplaced : List Entry → List Entry
+unplaced es = each (λ _ e. with_offset 0 e) IDS es
 
 -- A rank put in its place among those in order.
 unfoldable pub insert_rank : ℕ → List ℕ → List ℕ
