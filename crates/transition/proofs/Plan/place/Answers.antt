@@ -3,12 +3,18 @@ use borrow.Author.Rules.{rules}
 use lib.ListN.{length}
 use mathlib.Core.Path.{◌≡◌, refl}
 use native.Mathlib.Omega.{arith}
+use Rattle.placement.proofs.Unplaced.{unplaced_ranged}
 use Rattle.slots.specs.Limits.{IDS}
 use Rattle.timetable.proofs.Entries.{each_all}
 use Rattle.timetable.specs.Timetable.{each}
 use Rattle.transition.proofs.Each.{as_many, each_more}
 use Rattle.transition.proofs.SearchLaws.{put_in, settled_none, settled_some}
 use Rattle.transition.proofs.Plan.place.Goals as goal
+
+pub reorder-requires : goal.reorder-requires
+reorder-requires c =
+    let size : length c.args.self.now.entries ≡ IDS = search rules in
+    (c.requires.listing, unplaced_ranged _ size c.requires.ready.ranged)
 
 pub returns-in_default-clause-settled : goal.returns-in_default-clause-settled
 returns-in_default-clause-settled c =
