@@ -11,7 +11,7 @@ use Rattle.frames.proofs.RunLaws.{ran_prints}
 use Rattle.frames.specs.Coded.{Puts}
 use Rattle.frames.specs.Places.{InputBuffer, OutputBuffer}
 use Rattle.frames.specs.Program.{lines_from, program_lines}
-use Rattle.frames.specs.Runs.{Prints, put_in}
+use Rattle.frames.specs.Runs.{Prints, Ran, put_in}
 use Rattle.frames.specs.Runs.Prints.{last, next}
 
 -- What answers to requests print is what the program prints, from the same number and timetable on.
@@ -25,9 +25,14 @@ prints_lines (next {s} {r} {input} {text} {rest} e a p) most few =
     ∙ line_first input (most - 1) s.ordinal s.timetable e
     ∙ rw (a.told, ← later, a.ordinal, a.timetable) refl
 
--- What a whole run put into the output is what the program prints for all that it read.
-pub run_lines : {input : InputBuffer} {out : OutputBuffer} {input-after : InputBuffer} {out-after : OutputBuffer} → (ran : Answers input out input-after out-after) → ran.frames < MOST
+-- What a run put into the output, wherever its input and output stood, is what the program prints for all that it read.
+pub ran_lines : {input : InputBuffer} {out : OutputBuffer} {input-after : InputBuffer} {out-after : OutputBuffer} → (ran : Ran ControllerState Answered Puts start_controller MOST input out input-after out-after) → ran.frames < MOST
     → put_in ControllerState Answered Puts start_controller ran ≡ program_lines ran.read
 unfolding program_lines
-run_lines ran few =
+ran_lines ran few =
     sym (prints_lines (ran_prints ControllerState Answered Puts start_controller ran few) (length ran.read) (omega arith))
+
+-- So is what a whole run put, which starts with nothing read and nothing put.
+pub run_lines : {input : InputBuffer} {out : OutputBuffer} {input-after : InputBuffer} {out-after : OutputBuffer} → (whole : Answers input out input-after out-after) → whole.1.frames < MOST
+    → put_in ControllerState Answered Puts start_controller whole.1 ≡ program_lines whole.1.read
+run_lines whole = ran_lines whole.1

@@ -5,7 +5,7 @@ use Rattle.changer.specs.States.{ControllerState}
 use Rattle.frames.specs.Coded.{Puts}
 use Rattle.frames.specs.Places.{InputBuffer, OutputBuffer}
 use Rattle.frames.specs.Program.{line}
-use Rattle.frames.specs.Runs.{Ran}
+use Rattle.frames.specs.Runs.{AtStart, Ran}
 use Rattle.slots.specs.Limits.{AREA}
 use Rattle.timetable.specs.Timetable.{empty_timetable}
 
@@ -27,6 +27,6 @@ pub record Answered (s : ControllerState) (request text : List ℕ) (r : Control
 abbrev pub MOST : ℕ
 MOST = 2 ^ 64 - 2
 
--- The requests were answered until the input was over, or as many as the program counts.
+-- With nothing read and nothing put at the start, the requests were answered until the input was over, or as many as the program counts.
 abbrev pub Answers : InputBuffer → OutputBuffer → InputBuffer → OutputBuffer → Type 0
-Answers input out input-after out-after = Ran ControllerState Answered Puts start_controller MOST input out input-after out-after
+Answers input out input-after out-after = AtStart input out × Ran ControllerState Answered Puts start_controller MOST input out input-after out-after

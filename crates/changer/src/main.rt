@@ -4,6 +4,7 @@
 ghost use Rattle.std.specs.Prelude.{◌≡◌};
 ghost use Rattle.changer.specs.Answers.{Answers, start_controller};
 ghost use Rattle.frames.specs.Program.{answered_length};
+ghost use Rattle.frames.specs.Runs.{AtStart};
 
 use frames::LINE_ROOM;
 use frames::output::Output;
@@ -77,9 +78,10 @@ fn main(rt: HostRuntime) {
     );
 }
 
-// Answers requests until the input is over, and leaves no output waiting.
+// Answers requests until the input is over, with nothing read and nothing put at the start, and leaves no output waiting.
 // A proved loop has to end: this one would at the largest ordinal, which no run reaches.
 fn run(input: &mut Input, out: &mut Output<LINE_ROOM>)
+    requires { AtStart input.old out.old }
     ensures { (out.new.put ≡ 0) × Answers input.old out.old input.new out.new }
 {
     serve(&mut Controller::new(), input, out, u64::MAX - 1);

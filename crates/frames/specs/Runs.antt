@@ -4,6 +4,10 @@ use Rattle.frames.specs.Buffers.{Awaited, Inside, behind, between, content_of, u
 use Rattle.frames.specs.Places.{InputBuffer, OutputBuffer}
 use Rattle.frames.specs.Program.{frame_content, frame_rest, is_frame, last_line}
 
+-- A run starts with nothing read, and with nothing put that waits.
+abbrev pub AtStart : InputBuffer → OutputBuffer → Type 0
+AtStart input out = (input.from ≡ 0) × (input.to ≡ 0) × (out.put ≡ 0)
+
 module _ (State : Type 0) (Gives : State → List ℕ → List ℕ → State → Type 0) where
   -- What a program prints for the input ahead, from a state on: the text of each frame's content, in order, and a line for a bad frame at the end.
   pub data Prints : State → List ℕ → List ℕ → Type 0 where
@@ -18,7 +22,7 @@ module _ (State : Type 0) (Gives : State → List ℕ → List ℕ → State →
           → Gives s (content_of i size) text r → Put o.bytes o.put text o'.bytes o'.put → Awaited (behind i size) o' i' o'' b
           → Runs begin input out r b i' o'' (read ++ between i'.bytes (i'.from + ((behind i size).to - (behind i size).from)) i'.to) (put ++ text) (suc n)
 
-    -- The first frame was awaited, and frames were answered until the input was over, or as many as the program counts. What waited then was printed.
+    -- From where its input and output stood the first frame was awaited, and frames were answered until the input was over, or as many as the program counts. What waited then was printed.
     pub record Ran (most : ℕ) (input : InputBuffer) (out : OutputBuffer) (input-after : InputBuffer) (out-after : OutputBuffer) : Type 0 where
       pub begin : Option ℕ
       pub held : InputBuffer

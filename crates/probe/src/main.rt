@@ -2,6 +2,7 @@
 #![tactic(auto)]
 
 ghost use Rattle.std.specs.Prelude.{◌≡◌};
+ghost use Rattle.frames.specs.Runs.{AtStart};
 ghost use Rattle.probe.specs.Probes.{Probes};
 
 use frames::LINE_ROOM;
@@ -26,8 +27,9 @@ fn main(rt: HostRuntime) {
     );
 }
 
-// Answers probes until the input is over, and leaves no output waiting. A proved loop has to end, so it counts the frames, up to a number that no run reaches.
+// Answers probes until the input is over, with nothing read and nothing put at the start, and leaves no output waiting. A proved loop has to end, so it counts the frames, up to a number that no run reaches.
 fn run(prober: &mut Prober, input: &mut Input, out: &mut Output<LINE_ROOM>)
+    requires { AtStart input.old out.old }
     ensures { (out.new.put ≡ 0) × Probes input.old out.old input.new out.new }
 {
     serve(prober, input, out, u64::MAX);
