@@ -33,7 +33,7 @@ pub fn serve<A: Answerer>(
     most: u64,
 )
     requires { most ≤ A.left answerer.old }
-    ensures { (out.new.put ≡ 0) × Ran A A.gives A.puts answerer.old most input.old out.old input.new out.new }
+    ensures { (out.new.put ≡ 0) × (length input.new.bytes ≡ length input.old.bytes) × Ran A A.gives A.puts answerer.old most input.old out.old input.new out.new }
 {
     let mut ahead = stream::next_frame(input, out);
     for _ in 0..most {

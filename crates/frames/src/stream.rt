@@ -107,6 +107,7 @@ impl<'a> Input<'a> {
 pub fn next_frame(input: &mut Input, out: &mut Output<LINE_ROOM>) -> Option<usize>
     ensures inside { AheadInside result input.new out.new }
     ensures awaited { Awaited input.old out.old input.new out.new result }
+    ensures kept { length input.new.bytes ≡ length input.old.bytes }
 {
     loop {
         match input.ahead() {

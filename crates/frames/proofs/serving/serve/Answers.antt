@@ -1,6 +1,6 @@
--- `frames::serving::serve` meets its contract. The invariant: what stands ahead lies inside the buffers, as many frames were answered as the loop counts, and as many as are left to count can be answered still.
+-- `frames::serving::serve` meets its contract. The invariant: what stands ahead lies inside the buffers, the input's buffer has its length, as many frames were answered as the loop counts, and as many as are left to count can be answered still.
 -- Assumes nothing.
-use mathlib.Core.Path.{subst}
+use mathlib.Core.Path.{◌∙◌, subst}
 use native.Mathlib.Numerals.{add-one}
 use native.Mathlib.Omega.{arith}
 use Prim.Native.Nat.{ℕ}
@@ -13,6 +13,7 @@ use Rattle.frames.proofs.serving.serve.Goals.{else-loop-test, then-loop-test+in_
 pub loop-init : goal.loop-init
 loop-init g c = record {
   inside = c.next_frame-ahead.ensures.inside;
+  long = c.next_frame-ahead.ensures.kept;
   left = omega arith;
   stood = begins _ g.A.Answerer.gives g.A.Answerer.puts c.args.answerer.now;
 }
@@ -25,6 +26,7 @@ loop-preserved g c =
     let awaited = rw c.pass.ensures at c.next_frame-ahead-in-loop.ensures.awaited in
     record {
       inside = c.next_frame-ahead-in-loop.ensures.inside;
+      long = rw c.pass.ensures at c.next_frame-ahead-in-loop.ensures.kept ∙ q.invariant.long;
       left = omega (arith, q.invariant.left, c.answer.ensures.counted);
       stood = one_more _ g.A.Answerer.gives g.A.Answerer.puts c.args.answerer.now q.invariant.stood c.in-Some.is inside answered.1 answered.2 awaited _ (add-one q.counter);
     }
@@ -33,6 +35,7 @@ pub returns : goal.returns
 returns g c =
     let q = c.loop in (
       c.flush.ensures.0,
+      q.invariant.long,
       record {
         begin = c.next_frame-ahead.result;
         held = _;

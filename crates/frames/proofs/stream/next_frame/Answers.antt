@@ -22,6 +22,7 @@ returns-in-Frame c =
       };
       awaited = frame_awaited c.args.input.now c.args.out.now.put q.input q.out.put c.args.out.now c.make_room.new.self refl
           q.invariant.waiting c.in-Frame.size (sym next ∙ c.in-Frame.is) (rw q.invariant.bytes at room.put) (room.bytes ∙ q.invariant.bytes);
+      kept = q.invariant.long;
     }
 
 pub returns-in-Bad-clause-awaited : goal.returns-in-Bad-clause-awaited
