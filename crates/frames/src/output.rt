@@ -115,7 +115,9 @@ impl<'a, const LEAST: usize> Output<'a, LEAST> {
     }
 
     // One byte of a text of any length: a full buffer is printed on the way.
-    fn push(&mut self, byte: u8) {
+    fn push(&mut self, byte: u8)
+        ensures { length self.new.bytes ≡ length self.old.bytes }
+    {
         if self.bytes.len() <= self.put {
             self.flush();
         }
@@ -127,7 +129,15 @@ impl<'a, const LEAST: usize> Output<'a, LEAST> {
 }
 
 impl<'a, const LEAST: usize> fmt::Write for Output<'a, LEAST> {
-    fn write_str(&mut self, text: &str) -> fmt::Result {
+    ghost use Rattle.std.specs.Prelude.{IsOk, length, ◌≡◌};
+
+    ghost write_str_gives = { λ o text p. length p.bytes ≡ length o.bytes };
+
+    // A text of any length: it never fails, and the buffer keeps its length.
+    fn write_str(&mut self, text: &str) -> fmt::Result
+        ensures ok { IsOk result }
+        ensures kept { length self.new.bytes ≡ length self.old.bytes }
+    {
         for byte in text.as_bytes() {
             self.push(*byte);
         }
