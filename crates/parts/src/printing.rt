@@ -17,6 +17,7 @@ impl<'a> fmt::Display for Packed<'a> {
             return write!(f, "-");
         }
         let mut rest = self.0;
+        // No for loop: a run of zeros tells the place of the next byte.
         while let Some(byte) = rest.first() {
             write!(f, "{byte:02x}")?;
             let zeros = zeros_ahead(rest);
