@@ -271,9 +271,9 @@
  *
  * What it takes
  *
- * Measured, not proved, and the worst that was found, not a bound. Stack, with that of memcpy and memset (bench/count): of a change 1,759 bytes, of an
- * owner query 975, of a standing query 1,007; that of the other functions was not measured. Times of this code as an older toolchain built it, on an x86-64
- * machine (docs/BENCHMARKS.md has it, and the inputs): a change took 0.4 microseconds at the median of (a), and 19 at the worst; a query 0.4 at the worst, and reading an answer and
+ * Measured, not proved, and the worst that was found, not a bound. Stack, with that of memcpy and memset (bench/count): of a change 1,647 bytes, of an
+ * owner query 639, of a standing query 671; that of the other functions was not measured. Times of this library before today's forms of its code, as an older
+ * toolchain built it, on an x86-64 machine (docs/BENCHMARKS.md has it, the inputs, and what today's forms cost): a change took 0.4 microseconds at the median of (a), and 19 at the worst; a query 0.4 at the worst, and reading an answer and
  * writing a request 0.1. Earlier builds took longer. Up to version 4 the worst change took 95 to 103 microseconds on a quiet x86-64 machine, 142 where other
  * work disturbed it, and 201 on a slower one with an unsteady clock (docs/landings/ground.md); made for an Arm machine and timed there, 77 with versions 4
  * and 5 (docs/landings/CR-04.md), and 42 once slots were marked in bits (docs/landings/CR-06.md). Measure on your board. */

@@ -1,6 +1,6 @@
 -- What an image holds, as it is read: a slot, an entry, a start from their bytes, the entries, the starts, the whole timetable. Assumes nothing.
-use lib.ListN.{drop, get_or, length, get_or-append, length-replicate, replicate, take}
-use lib.Seq.{ext_get_or, get_or_at, get_or-drop}
+use lib.ListN.{drop, get_or, length, get_or-append, length-replicate, replicate, set, take}
+use lib.Seq.{ext_get_or, get_or_at, get_or-drop, get_or-set_other, get_or-set_same}
 use mathlib.Core.List.{List, []}
 use mathlib.Core.Path.{◌≡◌, refl, sym, ap, ◌∙◌}
 use native.Mathlib.Decide.{ℕ_discrete}
@@ -58,6 +58,15 @@ module _ (s : List ℕ) (at : ℕ) (part : List ℕ) where
         bound = b 3 (at + 3) refl (omega arith) i;
         shortfall = shortfall i;
       }
+
+-- Of a list whose first n are those of an image one more is put in.
+pub one_more : {A : Type 0} (d : A) (f : ℕ → A) (l : List A) (n : ℕ) (v : A) → n < length l → v ≡ f n → ((i : ℕ) → i < n → get_or l i d ≡ f i)
+    → (i : ℕ) → i < n + 1 → get_or (set l n v) i d ≡ f i
+one_more d f l n v h e below i m = at (ℕ_discrete i n)
+  where
+    at : Dec (i ≡ n) → get_or (set l n v) i d ≡ f i
+    at (yes z) = rw z (get_or-set_same l n v d h ∙ e)
+    at (no z) = get_or-set_other l n i v d z ∙ below i (omega arith)
 
 module _ (s : List ℕ) where
   -- There are as many entries as ids.

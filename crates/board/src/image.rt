@@ -3,6 +3,7 @@ ghost use Rattle.std.specs.Prelude.{drop, length, take, ◌≡◌, ◌+◌, ◌*
 ghost use Rattle.std.proofs.lemmas.List.Edits.{sets};
 ghost use Rattle.board.specs.Image.{ENTRIES_AT, ENTRY, IMAGE, START, STARTS_AT, entries_bytes, entry_at, entry_bytes, image_of, start_at, starts_bytes, timetable_at};
 ghost use Rattle.slots.specs.Limits.{IDS};
+ghost use Rattle.timetable.specs.Timetable.{empty_timetable};
 
 use crate::IMAGE;
 use slots::CoreSlot;
@@ -32,24 +33,19 @@ const STARTS_AT: usize = 273;
 // A start has this many bytes.
 const START: usize = 2;
 
-// The timetable that an image holds. (Inlined, and read id by id: else the stack of a change holds it, or its arrays, twice.)
-#[inline(always)]
-pub fn timetable_of(image: &[u8; IMAGE]) -> Timetable
-    ensures { result ≡ timetable_at image.now }
+// Reads the timetable that an image holds into an empty one that is lent. (Handed back it was held twice on the stack.)
+pub fn read_image(image: &[u8; IMAGE], t: &mut Timetable)
+    requires { t.old ≡ empty_timetable }
+    ensures { t.new ≡ timetable_at image.now }
 {
-    let mut t = Timetable {
-        request: CoreSlot(u64::from_be_bytes(bytes_at(image, REQUEST_AT))),
-        length: image[LENGTH_AT],
-        owners: bytes_at(image, OWNERS_AT),
-        base: CoreSlot(u64::from_be_bytes(bytes_at(image, BASE_AT))),
-        entries: [Entry::absent(0); Timetable::IDS],
-        starts: [0; Timetable::IDS],
-    };
+    t.request = CoreSlot(u64::from_be_bytes(bytes_at(image, REQUEST_AT)));
+    t.length = image[LENGTH_AT];
+    t.owners = bytes_at(image, OWNERS_AT);
+    t.base = CoreSlot(u64::from_be_bytes(bytes_at(image, BASE_AT)));
     for id in 0..Timetable::IDS {
         t.entries[id] = entry_of(image, id);
         t.starts[id] = start_of(image, id);
     }
-    t
 }
 
 // The bytes from a place, as many as are asked for.

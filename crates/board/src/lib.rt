@@ -50,7 +50,8 @@ pub fn tarnflaw_change(
     let Some(image) = image.as_mut_array() else {
         return Refusal::NOT_SOUND;
     };
-    let mut t = image::timetable_of(image);
+    let mut t = Timetable::empty();
+    image::read_image(image, &mut t);
     match change::decided(&mut t, request, area.len()) {
         Ok(searched) => {
             image::put_image(image, &t);
@@ -75,7 +76,9 @@ pub fn tarnflaw_owner(image: &[u8], slot: u64, place: &mut usize, owner: &mut u8
     let Some(image) = image.as_array() else {
         return Refusal::NOT_SOUND;
     };
-    let a = owner_query(&image::timetable_of(image), CoreSlot(slot));
+    let mut t = Timetable::empty();
+    image::read_image(image, &mut t);
+    let a = owner_query(&t, CoreSlot(slot));
     *place = a.place;
     *owner = a.owner;
     a.number
@@ -98,7 +101,9 @@ pub fn tarnflaw_standing(
     let Some(image) = image.as_array() else {
         return Refusal::NOT_SOUND;
     };
-    let a = standing_query(&image::timetable_of(image), id, CoreSlot(slot));
+    let mut t = Timetable::empty();
+    image::read_image(image, &mut t);
+    let a = standing_query(&t, id, CoreSlot(slot));
     *place = a.place;
     *shortfall = a.shortfall;
     *slices = a.slices.0;

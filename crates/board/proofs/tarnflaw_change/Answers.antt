@@ -13,17 +13,17 @@ returns-in_default c = change_no_image c.args.image.now c.in_default.ensures.cas
 pub write_answer-requires : goal.write_answer-requires
 write_answer-requires c =
     let room = length c.args.area.now in
-    subst (λ (a : Answer). GoesInto a room) (sym c.in-Ok.ensures.told) (goes_into c.timetable_of-t.result c.args.request.now room) refl
+    subst (λ (a : Answer). GoesInto a room) (sym c.in-Ok.ensures.told) (goes_into c.read_image.new.t c.args.request.now room) refl
 
 pub returns-in-Ok : goal.returns-in-Ok
 returns-in-Ok c =
     let chunk = c.in-Some.ensures.cases in
-    change_granted c.args.image.now chunk.long c.timetable_of-t.result (c.timetable_of-t.ensures ∙ ap timetable_at chunk.same) c.args.request.now c.args.area.now
+    change_granted c.args.image.now chunk.long c.read_image.new.t (c.read_image.ensures ∙ ap timetable_at chunk.same) c.args.request.now c.args.area.now
     c.decided.new.t c.in-Ok.searched c.in-Ok.ensures.told _ _ _ c.put_image.ensures c.write_answer.ensures
 
 pub returns-in-Err : goal.returns-in-Err
 returns-in-Err c =
     let chunk = c.in-Some.ensures.cases in
     rw chunk.same
-    (change_refused c.args.image.now chunk.long c.timetable_of-t.result (c.timetable_of-t.ensures ∙ ap timetable_at chunk.same) c.args.request.now c.args.area.now
+    (change_refused c.args.image.now chunk.long c.read_image.new.t (c.read_image.ensures ∙ ap timetable_at chunk.same) c.args.request.now c.args.area.now
     c.decided.new.t c.in-Err.refused c.in-Err.ensures.told c.in-Err.ensures.refused)

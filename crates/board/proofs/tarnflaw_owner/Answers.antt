@@ -10,4 +10,4 @@ returns-in_default c = owner_no_image c.args.image.now c.in_default.ensures.case
 pub returns : goal.returns
 returns c =
     let chunk = c.in-Some.ensures.cases in
-    owner_told c.args.image.now chunk.long _ (c.timetable_of.ensures ∙ ap timetable_at chunk.same) c.args.slot c.owner_query-a.result c.owner_query-a.ensures
+    owner_told c.args.image.now chunk.long _ (c.read_image.ensures ∙ ap timetable_at chunk.same) c.args.slot c.owner_query-a.result c.owner_query-a.ensures

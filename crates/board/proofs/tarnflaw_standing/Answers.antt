@@ -10,4 +10,4 @@ returns-in_default c = standing_no_image c.args.image.now c.in_default.ensures.c
 pub returns : goal.returns
 returns c =
     let chunk = c.in-Some.ensures.cases in
-    standing_told c.args.image.now chunk.long _ (c.timetable_of.ensures ∙ ap timetable_at chunk.same) c.args.id c.args.slot c.standing_query-a.result c.standing_query-a.ensures
+    standing_told c.args.image.now chunk.long _ (c.read_image.ensures ∙ ap timetable_at chunk.same) c.args.id c.args.slot c.standing_query-a.result c.standing_query-a.ensures

@@ -5,7 +5,7 @@ use Prim.Native.Nat.{ℕ, ◌+◌, ◌*◌, ◌<◌}
 use Rattle.board.specs.Image.{ENTRIES_AT, ENTRY, START, STARTS_AT, entry_at, start_at}
 use Rattle.slots.specs.Limits.{IDS}
 use Rattle.timetable.specs.Timetable.{entry_of}
-use Rattle.board.proofs.image.timetable_of.Given as goal
+use Rattle.board.proofs.image.read_image.Given as goal
 
 abbrev pub invariant-loop-id : goal.invariant-loop-id
 invariant-loop-id l = record {
