@@ -259,10 +259,10 @@
  *     instructions    those of the first x86-64 processors, and tzcnt (objdump -d). Processors without BMI1 run tzcnt as bsf, which gives the same
  *                     here: its operand, a period, or one with a bit set above it, is never 0 where it is reached, and the flags that it sets are
  *                     not read
- *     SSE             xmm0 to xmm6, to move, clear, compare, add, subtract, shift, mask, pack and unpack whole numbers, in most functions or in what
+ *     SSE             xmm0 to xmm15, to move, clear, compare, add, subtract, shift, mask, pack and unpack whole numbers, in most functions or in what
  *                     they call; no floating point arithmetic, and no x87, MMX or AVX register (objdump -d). Your memcpy and memset may use more
- *     red zone        change::before::sound_stage, transition::Plan::place, tarnflaw_write_request keep figures in the 128 bytes below the stack pointer (objdump -d):
- *                     a change and both queries call the first, and a change the second
+ *     red zone        change::before::sound_stage, tarnflaw_write_request keep figures in the 128 bytes below the stack pointer (objdump -d):
+ *                     a change and both queries call the first
  *
  * So SSE has to be enabled. Every caller, as the ABI has it, calls with the stack pointer at a multiple of 16: the code moves 16 bytes at a time to
  * and from the stack, and faults otherwise. An interrupt handler that calls it besides saves the SSE registers first, like all that the ABI lets a
