@@ -18,6 +18,7 @@ use Rattle.slots.specs.Limits.{WHOLE}
 use Rattle.timetable.proofs.Bits.{highest, set_and, set_none, set_or}
 use Rattle.timetable.proofs.Ranges.{Period, period_dvd}
 use Rattle.timetable.specs.Marks.{WORD, WORDS, Marks, OfCycle, is_marked, is_set, no_marks, with_bits, AreSlots}
+pub use Rattle.timetable.specs.Marks.{stride}
 
 -- ---- one word
 
@@ -68,10 +69,6 @@ module _ (marks : Marks) (word bits : ℕ) where
       (n, d, ap (is_set bits) r ∙ b.1, ap₂ (λ (x y : ℕ). is_set (get_or marks x 0) y) d r ∙ b.0)
 
 -- ---- the words of an offset
-
--- The slots of an offset stand in every so many words, from the first that has any: in every word for a period of up to 64.
-abbrev pub stride : ℕ → ℕ
-stride period = (period + (WORD - 1)) / WORD
 
 -- Two digits are the same as two others exactly if each is.
 same_digits : (a b c d : ℕ) → b < WORD → d < WORD → eqb (a * WORD + b) (c * WORD + d) ≡ eqb a c && eqb b d

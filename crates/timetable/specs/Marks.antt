@@ -39,6 +39,10 @@ with_bits word bits marks = set marks word (bit_or (get_or marks word 0) bits)
 abbrev pub AreSlots : ℕ → ℕ → ℕ → Type 0
 AreSlots period offset bits = (n : ℕ) → n < WORD → is_set bits n ≡ eqb (n % period) (offset % WORD)
 
+-- The words that have any of an offset's slots are this many apart.
+abbrev pub stride : ℕ → ℕ
+stride period = (period + (WORD - 1)) / WORD
+
 -- The bits are the free slots of a word up to the top one, each as far below the highest bit as its slot is below the top.
 pub record FreeUpTo (marks top bits : ℕ) : Type 0 where
   pub free : (n : ℕ) → n ≤ top → is_set bits (n + (WORD - 1 - top)) ≡ not (is_set marks n)

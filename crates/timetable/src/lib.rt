@@ -9,6 +9,7 @@ ghost use Rattle.timetable.specs.Timetable.{absent_entry, empty_timetable};
 use slots::{CoreSlot, SliceCount};
 
 mod figures; // figures.rt: the figures of one entry
+pub mod slot_bits; // slot_bits.rt: the slots of one cycle, one bit each
 mod serving; // serving.rt: whom a slot serves, and each id's shortfall and slices at a slot
 mod soundness; // soundness.rt: whether a timetable is sound
 

@@ -13,10 +13,10 @@ use crate::figures::{after_own, weight_of};
 use crate::{Entry, SoundTimetable, Timetable};
 
 // A word marks this many slots, one bit each: slot n is bit n % 64 of word n / 64.
-const WORD: usize = 64;
+pub const WORD: usize = 64;
 
 // This many words mark the slots of one cycle.
-const WORDS: usize = Timetable::WHOLE as usize / WORD;
+pub const WORDS: usize = Timetable::WHOLE as usize / WORD;
 
 impl Timetable {
     // The timetable as one that is known to be sound, if it is.
@@ -230,7 +230,7 @@ fn take_slots(taken: &mut [u64; WORDS], e: Entry) -> bool
 
 // The slots of an offset in a word that has any of them: the first, and then twice as many, which reach twice as far, up to the word's end.
 // (A `for` is no plainer: how far the slots reach doubles, and is what the loop tests.)
-fn slots_in_word(period: usize, offset: usize) -> u64
+pub fn slots_in_word(period: usize, offset: usize) -> u64
     requires { offset < period }
     ensures { AreSlots period offset result }
 {
