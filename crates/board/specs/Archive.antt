@@ -8,7 +8,7 @@ use Rattle.archive.specs.declared.AnswerField.{AnswerField}
 use Rattle.archive.specs.declared.AnswerField.TheVariants.{Length, Owners, Offset}
 use Rattle.archive.specs.declared.Schedule.{Schedule}
 use Rattle.archive.specs.RequestWrite.{area_written, write_request}
-use Rattle.archive.specs.Told.{told_number, told_place, told_written}
+unfoldable pub use Rattle.archive.specs.Told.{told_number, told_place, told_written}
 use Rattle.numbers.specs.Numbers.{ACCEPTED, SMALL_AREA}
 use Rattle.records.specs.Request.{Reading}
 use Rattle.slots.specs.Clocks.{core_slot}
