@@ -266,8 +266,9 @@
  *
  * So SSE has to be enabled. Every caller, as the ABI has it, calls with the stack pointer at a multiple of 16: the code moves 16 bytes at a time to
  * and from the stack, and faults otherwise. An interrupt handler that calls it besides saves the SSE registers first, like all that the ABI lets a
- * call lose. A handler that interrupts a call and runs on its stack leaves the 128 bytes below the stack pointer alone, as the ABI has it: the code
- * uses them, and your memcpy may.
+ * call lose. (Most earlier builds of version 6 used fewer of them: a handler that saved only those has to save all that are named above now.) A handler
+ * that interrupts a call and runs on its stack leaves the 128 bytes below the stack pointer alone, as the ABI has it: the code uses them, and your memcpy
+ * may.
  *
  * What it takes
  *
